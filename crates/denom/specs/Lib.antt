@@ -1,0 +1,2 @@
+pub mod Denomination
+pub mod Text

@@ -1,0 +1,5 @@
+pub mod House
+pub mod Refusals
+pub mod Faults
+pub mod Ledger
+pub mod Book
