@@ -4,6 +4,7 @@ use mathlib.Core.Bool.{Bool, true, false, _&&_}
 use mathlib.Core.List.{List, [], _∷_}
 use Prim.Native.Nat.{ℕ}
 use lib.Dec.{eqb}
+use Rattle.std.specs.shelf.Text.{sameBytes}
 
 -- the hops, the latest first, and the symbol's bytes
 pub record Denom : Type 0 where
@@ -17,10 +18,7 @@ pub record Token : Type 0 where
 
 -- equal lists of numbers
 abbrev pub same-list : List ℕ → List ℕ → Bool
-same-list [] [] = true
-same-list [] (y ∷ ys) = false
-same-list (x ∷ xs) [] = false
-same-list (x ∷ xs) (y ∷ ys) = eqb x y && same-list xs ys
+same-list xs ys = sameBytes xs ys
 
 -- the same hops and the same symbol
 abbrev pub same-denom : Denom → Denom → Bool

@@ -1,2 +1,4 @@
 pub mod Denomination
 pub mod Text
+pub mod Views
+pub mod Laws

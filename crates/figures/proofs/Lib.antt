@@ -1,0 +1,4 @@
+pub mod Digits
+pub mod Laid
+pub mod Parts
+pub mod Numerals
