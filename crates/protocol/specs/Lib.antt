@@ -6,3 +6,5 @@ pub mod Book
 pub mod World
 pub mod Calls
 pub mod Laws
+pub mod Audit
+pub mod Known

@@ -1,4 +1,5 @@
 // The laws of the model, each as the contract of a function, so that the check asks for its proof.
+ghost use Rattle.protocol.specs.Known.{Outcomes-known};
 ghost use Rattle.protocol.specs.Laws.{Bounded, Conservation, Refusals-in-order, Supply-accounted};
 
 /// Conservation over every past of a world, over any ledger and any two books.
@@ -19,4 +20,9 @@ pub fn bounded()
 /// Every token's supply at home, and every escrow, is accounted for at every moment.
 pub fn supply_is_accounted()
     ensures { λ _. ⌜ Supply-accounted ⌝ }
+{}
+
+/// The known outcomes together, computed from the definitions.
+pub fn known_outcomes()
+    ensures { λ _. ⌜ Outcomes-known ⌝ }
 {}
