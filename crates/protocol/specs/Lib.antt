@@ -3,3 +3,8 @@ pub mod Refusals
 pub mod Faults
 pub mod Ledger
 pub mod Book
+pub mod World
+pub mod Calls
+pub mod Laws
+pub mod Audit
+pub mod Known
