@@ -3,8 +3,9 @@ ghost use Prim.Native.Nat.{ℕ};
 ghost use lib.Dec.{leb};
 ghost use Rattle.protocol.specs.Faults.{told-by, ledger-number};
 ghost use Rattle.protocol.specs.House.{accounts};
-ghost use Rattle.protocol.specs.Ledger.{outside, Ledger as Meaning};
+ghost use Rattle.protocol.specs.Ledger.{outside};
 ghost use Rattle.protocol.specs.Refusals.{answer-unless};
+ghost use Rattle.ledger.specs.Empty.{empty};
 use protocol::LedgerFault;
 
 /// A chain's users are its accounts 0 to 15.
@@ -24,7 +25,7 @@ pub fn within(
     amount: u64,
     denomination: usize,
 ) -> Result<(), LedgerFault>
-    ensures { λ r. ⌜ ((m : Meaning) → m .chains ≡ chains → told-by ledger-number r ≡ answer-unless (outside m chain (leb accounts account) amount denomination) tt) ⌝ }
+    ensures { λ r. ⌜ told-by ledger-number r ≡ answer-unless (outside (empty chains) chain (leb accounts account) amount denomination) tt ⌝ }
 {
     if chain >= chains {
         return Err(LedgerFault::ChainNotServed);

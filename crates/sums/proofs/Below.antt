@@ -28,6 +28,16 @@ sum-at (suc n) a f h =
     (λ (e : a ≡ n → ⊥). let l : f a ≤ sum-below n f = sum-at n a f (omega arith) in omega arith)
     (cases-eq a n)
 
+-- a sum of fewer terms is at most the whole
+pub sum-front : (n a : ℕ) (f : ℕ → ℕ) → a ≤ n → sum-below a f ≤ sum-below n f
+unfolding sum-below
+sum-front zero a f h = let e : a ≡ 0 = omega arith in rw e (omega arith)
+sum-front (suc n) a f h =
+    ⊎-elim
+    (λ (e : a ≡ suc n). rw e (omega arith))
+    (λ (e : a ≡ suc n → ⊥). let l : sum-below a f ≤ sum-below n f = sum-front n a f (omega arith) in omega arith)
+    (cases-eq a (suc n))
+
 -- one term replaced
 pub sum-put : (n a v : ℕ) (f : ℕ → ℕ) → a < n → sum-below n (λ k. cond (eqb k a) v (f k)) + f a ≡ sum-below n f + v
 unfolding sum-below
