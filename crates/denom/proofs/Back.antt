@@ -18,9 +18,10 @@ use Rattle.std.proofs.shelf.Lists.{drop-more, drop-drop, drop-set, length-set, 
 use Rattle.std.proofs.str.Laws.{order}
 use mathlib.Core.Logic.{⊎-elim}
 use Rattle.denom.specs.declared.types.TextFault.{TextFault}
+use Rattle.denom.specs.declared.types.TextFault.the-variants.{NotADenomination}
 use Rattle.denom.specs.Denomination.{Denom, hopless, behind}
 use Rattle.denom.specs.Text.{hop-mark, hop-text, trace-text, denom-text, begins, hop-digit, hop-of, letter, letter-or-digit, each, is-symbol, is-denom, only-symbol, behind-hop, read-on, read-from, denom-of}
-use Rattle.denom.specs.Views.{symbol-answer, put-hops, hops-after, count-after}
+use Rattle.denom.specs.Views.{symbol-answer, denom-answer, put-hops, hops-after, count-after}
 use Rattle.denom.specs.Laws.{Denoms-read-back, Denoms-write-back}
 use Rattle.denom.proofs.Steps.{both, symbol-here}
 
@@ -198,3 +199,26 @@ held bs at0 at1 n n0 six e m =
           (λ i. take (count i) (f i)) ∙ put-held (t .hops) 0 at0 (omega (arith, known 6 bs t is .few))
     ] in
     go (denom-of bs) refl e m
+
+-- Hops and symbol put together are the denomination that was read.
+
+pub put-together :
+    (o : Option Denom) (s hs sy : List ℕ) → _≡_ {A = Result (List ℕ) TextFault} (Ok s) (symbol-answer o) →
+    BySome o (Unit {0}) (λ e. hs ≡ e .hops) → sy ≡ s →
+    _≡_ {A = Result Denom TextFault} (Ok (record { hops = hs; symbol = sy })) (denom-answer o)
+put-together None s hs sy is h e = let z : _≡_ {A = ℕ} 0 1 = cc in absurd (omega arith)
+put-together (Some t) s hs sy is h e =
+    let same : s ≡ t .symbol = cc in
+    λ i. Ok (record { hops = h i; symbol = (e ∙ same) i })
+
+pub not-read : (o : Option Denom) (f : TextFault) → _≡_ {A = Result (List ℕ) TextFault} (Err f) (symbol-answer o) → _≡_ {A = Result Denom TextFault} (Err f) (denom-answer o)
+not-read None f is = let same : f ≡ NotADenomination = cc in ap Err same
+not-read (Some t) f is = let z : _≡_ {A = ℕ} 0 1 = cc in absurd (omega arith)
+
+-- what the reader answers is a symbol
+pub answers-symbol : (bs s : List ℕ) → _≡_ {A = Result (List ℕ) TextFault} (Ok s) (symbol-answer (denom-of bs)) → is-symbol s ≡ true
+answers-symbol bs s is = go (denom-of bs) refl is
+  where
+    go : (o : Option Denom) → denom-of bs ≡ o → _≡_ {A = Result (List ℕ) TextFault} (Ok s) (symbol-answer o) → is-symbol s ≡ true
+    go None e f = let z : _≡_ {A = ℕ} 0 1 = cc in absurd (omega arith)
+    go (Some t) e f = let same : s ≡ t .symbol = cc in ap is-symbol same ∙ known 6 bs t e .symbol

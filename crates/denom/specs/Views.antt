@@ -33,6 +33,11 @@ abbrev pub symbol-answer : Option Denom → Result (List ℕ) TextFault
 symbol-answer None = Err NotADenomination
 symbol-answer (Some e) = Ok (e .symbol)
 
+-- the denomination that a text reads as, or that it is none
+abbrev pub denom-answer : Option Denom → Result Denom TextFault
+denom-answer None = Err NotADenomination
+denom-answer (Some e) = Ok e
+
 -- hops laid into a table from a place on
 abbrev pub put-hops : List ℕ → ℕ → List ℕ → List ℕ
 put-hops [] d at = at

@@ -6,8 +6,9 @@ ghost use lib.ListN.{length, take, drop, getD, replicate};
 ghost use Rattle.std.specs.Results.{mapped, Cases};
 ghost use Rattle.std.specs.Options.{Cases as BySome};
 ghost use Rattle.denom.specs.Text.{begins, hop-of, hop-digit, letter, letter-or-digit, each, is-symbol, read-from, denom-of};
-ghost use Rattle.denom.specs.Views.{symbol-answer, hops-after, count-after, hops-of, symbol-of};
+ghost use Rattle.denom.specs.Views.{symbol-answer, hops-after, count-after, hops-of, symbol-of, denom-view, denom-answer};
 ghost use Rattle.denom.specs.Laws.{Denoms-read-back, Denoms-write-back};
+use super::types::Denomination;
 use super::types::Hops;
 use super::types::Symbol;
 use super::types::TextFault;
@@ -154,6 +155,22 @@ impl Symbol {
         Symbol {
             bytes,
             len: text.len(),
+        }
+    }
+}
+
+impl Denomination {
+    /// The denomination that a text stands for.
+    pub fn of(text: &[u8]) -> Result<Denomination, TextFault>
+        ensures { λ r. ⌜ mapped denom-view (λ e. e) r ≡ denom-answer (denom-of (now (text .entry))) ⌝ }
+    {
+        let mut hops = Hops::none();
+        match read_denomination(text, &mut hops) {
+            Ok(rest) => match Symbol::of(rest) {
+                Ok(symbol) => Ok(Denomination { hops, symbol }),
+                Err(_) => Err(TextFault::NotADenomination),
+            },
+            Err(fault) => Err(fault),
         }
     }
 }

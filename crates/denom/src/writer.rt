@@ -1,10 +1,11 @@
 ghost use mathlib.Core.Path.{_≡_};
 ghost use mathlib.Core.Bool.{true};
-ghost use Prim.Native.Nat.{_+_, _*_, _≤_};
+ghost use Prim.Native.Nat.{ℕ, _+_, _*_, _≤_};
 ghost use lib.ListN.{length};
 ghost use lib.Dec.{ltb};
 ghost use denote.Ref.{name};
-ghost use Rattle.figures.specs.Figures.{into};
+ghost use mathlib.Core.List.{List, _++_};
+ghost use Rattle.figures.specs.Figures.{into, Holds};
 ghost use Rattle.denom.specs.Text.{each, trace-text, denom-text};
 ghost use Rattle.denom.specs.Views.{denom-view, hops-of, symbol-of};
 use super::types::Denomination;
@@ -56,6 +57,7 @@ pub fn write_denomination(line: &mut Line, denomination: &Denomination)
     ensures at { λ _. ⌜ now (line .exit) .at ≡ now (line .entry) .at + length (denom-text (denom-view (now (denomination .entry)))) ⌝ }
     ensures room { λ _. ⌜ length (now (now (line .exit) .buffer)) ≡ length (now (now (line .entry) .buffer)) ⌝ }
     ensures buffer { λ _. ⌜ now (now (line .exit) .buffer) ≡ into (denom-text (denom-view (now (denomination .entry)))) (now (line .entry) .at) (now (now (line .entry) .buffer)) ⌝ }
+    ensures holds { λ _. ⌜ ((xs before : List ℕ) → Holds (now (line .entry) .at) (now (now (line .entry) .buffer)) xs before → Holds (now (line .exit) .at) (now (now (line .exit) .buffer)) (xs ++ denom-text (denom-view (now (denomination .entry)))) before) ⌝ }
     ensures lender { λ _. ⌜ name (now (line .exit) .buffer) ≡ name (now (line .entry) .buffer) ⌝ }
 {
     write_trace(

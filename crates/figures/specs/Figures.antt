@@ -31,6 +31,10 @@ Numbers-write-back = (bs : List ℕ) (n : ℕ) → number-read bs ≡ Some n →
 abbrev pub over : List ℕ → List ℕ → List ℕ
 over ds out = ds ++ drop (length ds) out
 
+-- a buffer of which so many bytes are written holds a text, and behind it what it held before
+abbrev pub Holds : ℕ → List ℕ → List ℕ → List ℕ → Type 0
+Holds at buffer text before = (at ≡ length text) × (buffer ≡ over text before)
+
 -- a text laid into a buffer from a place on
 abbrev pub into : List ℕ → ℕ → List ℕ → List ℕ
 into ds at out = take at out ++ over ds (drop at out)

@@ -2,7 +2,8 @@ ghost use mathlib.Core.Path.{_≡_};
 ghost use Prim.Native.Nat.{ℕ, _+_, _<_, _≤_};
 ghost use lib.ListN.{length};
 ghost use denote.Ref.{name};
-ghost use Rattle.figures.specs.Figures.{figure, over, into};
+ghost use mathlib.Core.List.{List, _++_};
+ghost use Rattle.figures.specs.Figures.{figure, over, into, Holds};
 use super::numbers::write_figure;
 
 /// A line that is written from the front into a lent buffer, piece by piece.
@@ -36,6 +37,7 @@ impl<'a> Line<'a> {
         ensures room { λ r. ⌜ length (now (now (self .exit) .buffer)) ≡ length (now (now (self .entry) .buffer)) ⌝ }
         ensures at { λ r. ⌜ now (self .exit) .at ≡ now (self .entry) .at + length (figure n) ⌝ }
         ensures buffer { λ r. ⌜ now (now (self .exit) .buffer) ≡ into (figure n) (now (self .entry) .at) (now (now (self .entry) .buffer)) ⌝ }
+        ensures holds { λ r. ⌜ ((xs before : List ℕ) → Holds (now (self .entry) .at) (now (now (self .entry) .buffer)) xs before → Holds (now (self .exit) .at) (now (now (self .exit) .buffer)) (xs ++ figure n) before) ⌝ }
         ensures lender { λ r. ⌜ name (now (self .exit) .buffer) ≡ name (now (self .entry) .buffer) ⌝ }
     {
         let at = self.at;
@@ -49,6 +51,7 @@ impl<'a> Line<'a> {
         ensures room { λ r. ⌜ length (now (now (self .exit) .buffer)) ≡ length (now (now (self .entry) .buffer)) ⌝ }
         ensures at { λ r. ⌜ now (self .exit) .at ≡ now (self .entry) .at + length (now (text .entry)) ⌝ }
         ensures buffer { λ r. ⌜ now (now (self .exit) .buffer) ≡ into (now (text .entry)) (now (self .entry) .at) (now (now (self .entry) .buffer)) ⌝ }
+        ensures holds { λ r. ⌜ ((xs before : List ℕ) → Holds (now (self .entry) .at) (now (now (self .entry) .buffer)) xs before → Holds (now (self .exit) .at) (now (now (self .exit) .buffer)) (xs ++ now (text .entry)) before) ⌝ }
         ensures lender { λ r. ⌜ name (now (self .exit) .buffer) ≡ name (now (self .entry) .buffer) ⌝ }
     {
         let at = self.at;

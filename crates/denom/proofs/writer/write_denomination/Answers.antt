@@ -4,11 +4,12 @@ use mathlib.Core.List.{List}
 use native.Mathlib.Omega.{arith}
 use Prim.Native.Nat.{ℕ, _+_, _*_, _≤_}
 use lib.Dec.{ltb}
-use lib.ListN.{length, take, length-take}
+use lib.ListN.{length, take, length-take, length-append}
 use Rattle.figures.specs.Figures.{into}
 use Rattle.denom.specs.Text.{each, trace-text}
 use Rattle.denom.specs.Views.{hops-of, symbol-of}
 use Rattle.denom.proofs.Bounds.{channels-each}
+use Rattle.figures.proofs.Parts.{piece}
 use Rattle.denom.proofs.Joins.{length-trace}
 use Rattle.denom.proofs.writer.write_denomination.Needs as need
 
@@ -56,5 +57,10 @@ returns c =
       at = at;
       room = told .room;
       buffer = told .buffer ∙ ap (λ l. into l (line .at) (line .buffer .now)) whole;
+      holds = λ xs before h.
+          let text = trace-text (hops-of (d .hops)) (symbol-of (d .symbol)) in (
+            at ∙ ap (λ n. n + length text) (h .0) ∙ sym (length-append xs text),
+            told .buffer ∙ ap (λ l. into l (line .at) (line .buffer .now)) whole ∙ piece xs text before _ _ (h .0) (h .1),
+          );
       lender = told .lender;
     }
