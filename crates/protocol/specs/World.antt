@@ -8,9 +8,16 @@ use Rattle.std.specs.declared.option.Option.{Option}
 use Rattle.sums.specs.Sums.{sum-below, total, gate}
 use Rattle.register.specs.Keys.{place, found}
 use Rattle.denom.specs.Denomination.{Denom, Token, same-denom, same-token, hopless}
+use Rattle.protocol.specs.declared.link_kind.LinkKind.{LinkKind}
+use Rattle.protocol.specs.declared.link_kind.LinkKind.the-variants.{Free, Strict}
 use Rattle.protocol.specs.House.{chains-most, channels-most, escrow-account}
 use Rattle.protocol.specs.Ledger.{Ledger, supply, users-hold, cleared}
 use Rattle.protocol.specs.Book.{Book, is-one, wiped}
+
+-- a kind of link as it is kept below: true for strict
+abbrev pub is-strict : LinkKind → Bool
+is-strict Free = false
+is-strict Strict = true
 
 -- an end of a link: a channel of a chain
 pub record End : Type 0 where

@@ -1,3 +1,6 @@
+ghost use mathlib.Core.Path.{_≡_};
+ghost use Rattle.protocol.specs.Book.{mark-number};
+
 /// What the receiving chain made of a packet.
 #[derive(Clone, Copy, PartialEq, Eq, Debug)]
 pub enum Mark {
@@ -9,4 +12,18 @@ pub enum Mark {
     RegisterFull,
     /// The ledger refused.
     LedgerRefused,
+}
+
+impl Mark {
+    /// The number of this mark.
+    pub fn number(self) -> u8
+        ensures { λ r. ⌜ r ≡ mark-number self ⌝ }
+    {
+        match self {
+            Mark::Good => 1,
+            Mark::TooManyHops => 2,
+            Mark::RegisterFull => 3,
+            Mark::LedgerRefused => 4,
+        }
+    }
 }
