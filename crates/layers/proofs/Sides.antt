@@ -17,14 +17,8 @@ module _ (m k : Ledger) (c : ℕ) (few : c < 256) (first-side : c < m .chains) (
   pub first-credit : first (credit-refusals m c a d n) ≡ first (credit-refusals (beside m k) c a d n)
   first-credit = grind (arith, tells, first-supply)
 
-  pub first-debit : first (debit-refusals m c a d n) ≡ first (debit-refusals (beside m k) c a d n)
-  first-debit = grind (arith, tells)
-
   pub first-credited : beside (with-balances m (credited (m .balance) c a d n)) k ≡ with-balances (beside m k) (credited (beside m k .balance) c a d n)
   first-credited = ap (with-balances (beside m k)) (fun-ext λ c′. fun-ext λ a′. fun-ext λ d′. grind (arith, tells))
-
-  pub first-debited : beside (with-balances m (debited (m .balance) c a d n)) k ≡ with-balances (beside m k) (debited (beside m k .balance) c a d n)
-  first-debited = ap (with-balances (beside m k)) (fun-ext λ c′. fun-ext λ a′. fun-ext λ d′. grind (arith, tells))
 
 module _ (m k : Ledger) (c : ℕ) (few : c < 256) (second-side : m .chains ≤ c) (a d n : ℕ) where
   second-supply : supply (beside m k .balance) c d ≡ supply (k .balance) (c - m .chains) d

@@ -1,6 +1,7 @@
 ghost use mathlib.Core.Path.{_≡_};
 ghost use Rattle.layers.specs.Layers.{beside as side-by-side};
 ghost use Rattle.layers.specs.Laws.{beside-lawful};
+ghost use Rattle.layers.specs.Sides.{OnSide};
 use ledger::Ledger;
 use protocol::LedgerFault;
 
@@ -14,12 +15,34 @@ pub struct Beside<L: Ledger, R: Ledger> {
     second: R,
 }
 
+// One of the two, and its own number of a chain.
+#[derive(Clone, Copy)]
+pub(crate) enum Side {
+    First(usize),
+    Second(usize),
+}
+
 impl<L: Ledger, R: Ledger> Beside<L, R> {
     /// Puts two ledgers side by side, as they are.
     pub fn new(first: L, second: R) -> Beside<L, R>
         ensures { λ r. ⌜ side-by-side (L·Ledger .meaning (r .first)) (R·Ledger .meaning (r .second)) ≡ side-by-side (L·Ledger .meaning first) (R·Ledger .meaning second) ⌝ }
     {
         Beside { first, second }
+    }
+
+    // Where a chain is served, and as which.
+    fn side(&self, chain: usize) -> Result<Side, LedgerFault>
+        ensures { λ r. ⌜ OnSide (L·Ledger .meaning (now (self .entry) .first) .chains) chain r ⌝ }
+    {
+        if chain >= MOST {
+            return Err(LedgerFault::ChainNotServed);
+        }
+        let first = self.first.chains();
+        if chain < first {
+            Ok(Side::First(chain))
+        } else {
+            Ok(Side::Second(chain - first))
+        }
     }
 }
 
@@ -44,62 +67,37 @@ pub impl<L: Ledger, R: Ledger> Ledger for Beside<L, R> as BesideLedger {
         account: usize,
         denomination: usize,
     ) -> Result<u64, LedgerFault> {
-        if chain >= MOST {
-            return Err(LedgerFault::ChainNotServed);
-        }
-        let first = self.first.chains();
-        if chain < first {
-            self.first.balance(chain, account, denomination)
-        } else {
-            self.second.balance(chain - first, account, denomination)
+        match self.side(chain)? {
+            Side::First(chain) => self.first.balance(chain, account, denomination),
+            Side::Second(chain) => self.second.balance(chain, account, denomination),
         }
     }
 
     fn supply(&self, chain: usize, denomination: usize) -> Result<u64, LedgerFault> {
-        if chain >= MOST {
-            return Err(LedgerFault::ChainNotServed);
-        }
-        let first = self.first.chains();
-        if chain < first {
-            self.first.supply(chain, denomination)
-        } else {
-            self.second.supply(chain - first, denomination)
+        match self.side(chain)? {
+            Side::First(chain) => self.first.supply(chain, denomination),
+            Side::Second(chain) => self.second.supply(chain, denomination),
         }
     }
 
     fn users_hold(&self, chain: usize, denomination: usize) -> Result<u64, LedgerFault> {
-        if chain >= MOST {
-            return Err(LedgerFault::ChainNotServed);
-        }
-        let first = self.first.chains();
-        if chain < first {
-            self.first.users_hold(chain, denomination)
-        } else {
-            self.second.users_hold(chain - first, denomination)
+        match self.side(chain)? {
+            Side::First(chain) => self.first.users_hold(chain, denomination),
+            Side::Second(chain) => self.second.users_hold(chain, denomination),
         }
     }
 
     fn is_barred(&self, chain: usize, user: usize) -> Result<bool, LedgerFault> {
-        if chain >= MOST {
-            return Err(LedgerFault::ChainNotServed);
-        }
-        let first = self.first.chains();
-        if chain < first {
-            self.first.is_barred(chain, user)
-        } else {
-            self.second.is_barred(chain - first, user)
+        match self.side(chain)? {
+            Side::First(chain) => self.first.is_barred(chain, user),
+            Side::Second(chain) => self.second.is_barred(chain, user),
         }
     }
 
     fn serves_bars(&self, chain: usize) -> Result<bool, LedgerFault> {
-        if chain >= MOST {
-            return Err(LedgerFault::ChainNotServed);
-        }
-        let first = self.first.chains();
-        if chain < first {
-            self.first.serves_bars(chain)
-        } else {
-            self.second.serves_bars(chain - first)
+        match self.side(chain)? {
+            Side::First(chain) => self.first.serves_bars(chain),
+            Side::Second(chain) => self.second.serves_bars(chain),
         }
     }
 
@@ -110,15 +108,9 @@ pub impl<L: Ledger, R: Ledger> Ledger for Beside<L, R> as BesideLedger {
         denomination: usize,
         amount: u64,
     ) -> Result<(), LedgerFault> {
-        if chain >= MOST {
-            return Err(LedgerFault::ChainNotServed);
-        }
-        let first = self.first.chains();
-        if chain < first {
-            self.first.credit(chain, account, denomination, amount)
-        } else {
-            self.second
-                .credit(chain - first, account, denomination, amount)
+        match self.side(chain)? {
+            Side::First(chain) => self.first.credit(chain, account, denomination, amount),
+            Side::Second(chain) => self.second.credit(chain, account, denomination, amount),
         }
     }
 
@@ -129,39 +121,23 @@ pub impl<L: Ledger, R: Ledger> Ledger for Beside<L, R> as BesideLedger {
         denomination: usize,
         amount: u64,
     ) -> Result<(), LedgerFault> {
-        if chain >= MOST {
-            return Err(LedgerFault::ChainNotServed);
-        }
-        let first = self.first.chains();
-        if chain < first {
-            self.first.debit(chain, account, denomination, amount)
-        } else {
-            self.second
-                .debit(chain - first, account, denomination, amount)
+        match self.side(chain)? {
+            Side::First(chain) => self.first.debit(chain, account, denomination, amount),
+            Side::Second(chain) => self.second.debit(chain, account, denomination, amount),
         }
     }
 
     fn bar(&mut self, chain: usize, user: usize) -> Result<(), LedgerFault> {
-        if chain >= MOST {
-            return Err(LedgerFault::ChainNotServed);
-        }
-        let first = self.first.chains();
-        if chain < first {
-            self.first.bar(chain, user)
-        } else {
-            self.second.bar(chain - first, user)
+        match self.side(chain)? {
+            Side::First(chain) => self.first.bar(chain, user),
+            Side::Second(chain) => self.second.bar(chain, user),
         }
     }
 
     fn unbar(&mut self, chain: usize, user: usize) -> Result<(), LedgerFault> {
-        if chain >= MOST {
-            return Err(LedgerFault::ChainNotServed);
-        }
-        let first = self.first.chains();
-        if chain < first {
-            self.first.unbar(chain, user)
-        } else {
-            self.second.unbar(chain - first, user)
+        match self.side(chain)? {
+            Side::First(chain) => self.first.unbar(chain, user),
+            Side::Second(chain) => self.second.unbar(chain, user),
         }
     }
 

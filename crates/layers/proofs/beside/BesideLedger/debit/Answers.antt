@@ -1,33 +1,21 @@
-use mathlib.Core.Path.{_≡_}
-use Prim.Native.Nat.{_<_, _≤_}
-use native.Mathlib.Omega.{arith}
-use Rattle.protocol.specs.Ledger.{Ledger}
+use mathlib.Core.Path.{_≡_, subst}
+use Rattle.std.specs.declared.result.Result.the-variants.{Ok}
 use Rattle.ledger.proofs.Answers.{handed-on, answered}
 use Rattle.layers.specs.Layers.{beside}
-use Rattle.layers.proofs.Sides.{first-debit, first-debited, second-debit, second-debited}
+use Rattle.layers.specs.Sides.{OnSide}
+use Rattle.layers.specs.declared.beside.Side.{Side}
+use Rattle.layers.proofs.Sides.{second-debit, second-debited}
 use Rattle.layers.proofs.beside.BesideLedger.debit.Needs as need
 
-pub returns-then-chain-first : need.returns-then-chain-first
-returns-then-chain-first g c =
+pub returns-in-Second : need.returns-in-Second
+returns-in-Second g c =
     let m = g .L·Ledger .meaning (c .args .self .now .first) in
     let k = g .R·Ledger .meaning (c .args .self .now .second) in
-    let side : c .args .chain < m .chains = omega arith in
     let at = c .args in
+    let on = subst (λ (s : Side). OnSide (m .chains) (at .chain) (Ok s)) (c .in-Second .is) (c .in-Continue-chain .ensures tt) in
+    let told = rw (on .2) at (c .debit-in-Second .ensures .answer) in
+    let left = rw (on .2) at (c .debit-in-Second .ensures .after) in
     record {
-      answer = answered tt _ _ _ (c .debit .ensures .answer) (first-debit m k (at .chain) (omega arith) side (at .account) (at .denomination) (at .amount));
-      after = handed-on (λ (x : Ledger). beside x k) (c .debit .result) m _ _ _ (c .debit .ensures .after) (first-debited m k (at .chain) (omega arith) side (at .account) (at .denomination) (at .amount));
-    }
-
-pub returns-else-chain-first : need.returns-else-chain-first
-returns-else-chain-first g c =
-    let m = g .L·Ledger .meaning (c .args .self .now .first) in
-    let k = g .R·Ledger .meaning (c .args .self .now .second) in
-    let side : m .chains ≤ c .args .chain = omega arith in
-    let n : c .chains-first .result ≡ m .chains = c .chains-first .ensures in
-    let told = rw n at (c .debit-else-chain-first .ensures .answer) in
-    let left = rw n at (c .debit-else-chain-first .ensures .after) in
-    let at = c .args in
-    record {
-      answer = answered tt _ _ _ told (second-debit m k (at .chain) (omega arith) side (at .account) (at .denomination) (at .amount));
-      after = handed-on (λ (x : Ledger). beside m x) (c .debit-else-chain-first .result) k _ _ _ left (second-debited m k (at .chain) (omega arith) side (at .account) (at .denomination) (at .amount));
+      answer = answered tt _ _ _ told (second-debit m k (at .chain) (on .0) (on .1) (at .account) (at .denomination) (at .amount));
+      after = handed-on (beside m) (c .debit-in-Second .result) k _ _ _ left (second-debited m k (at .chain) (on .0) (on .1) (at .account) (at .denomination) (at .amount));
     }
