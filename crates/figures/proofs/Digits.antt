@@ -48,3 +48,7 @@ length-figure-le k n pos h =
     (λ small. omega (arith, ap length (figure-digit n small)))
     (λ big. omega (arith, ap length (figure-long n big), length-map (digitsOf 10 n) (λ d. 48 + d), length-digitsOf-le 10 k n (omega arith) h))
     (order n 10)
+
+-- a number of 64 bits has at most 20 digits
+pub length-figure-64 : (n : ℕ) → n < 2 ^ 64 → length (figure n) ≤ 20
+length-figure-64 n h = length-figure-le 20 n (omega arith) (omega arith)

@@ -27,6 +27,15 @@ Numbers-read-back = (n : ℕ) → n < 2 ^ 64 → number-read (figure n) ≡ Some
 abbrev pub Numbers-write-back : Type 0
 Numbers-write-back = (bs : List ℕ) (n : ℕ) → number-read bs ≡ Some n → (n < 2 ^ 64) × (figure n ≡ bs)
 
+-- words, each with a space before it
+abbrev pub spaced : List (List ℕ) → List ℕ
+spaced [] = []
+spaced (w ∷ ws) = (32 ∷ w) ++ spaced ws
+
+-- a line: a word, others with a space before each, and LF
+abbrev pub line-of : List ℕ → List (List ℕ) → List ℕ
+line-of first others = first ++ (spaced others ++ 10 ∷ [])
+
 -- a text laid over the front of a buffer
 abbrev pub over : List ℕ → List ℕ → List ℕ
 over ds out = ds ++ drop (length ds) out

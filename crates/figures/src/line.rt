@@ -2,7 +2,7 @@ ghost use mathlib.Core.Path.{_≡_};
 ghost use Prim.Native.Nat.{ℕ, _+_, _<_, _≤_};
 ghost use lib.ListN.{length};
 ghost use denote.Ref.{name};
-ghost use mathlib.Core.List.{List, _++_};
+ghost use mathlib.Core.List.{List, _∷_, _++_};
 ghost use Rattle.figures.specs.Figures.{figure, over, into, Holds};
 use super::numbers::write_figure;
 
@@ -57,6 +57,30 @@ impl<'a> Line<'a> {
         let at = self.at;
         put_bytes(&mut self.buffer[at..], text);
         self.at = at + text.len();
+    }
+
+    /// A space and some bytes.
+    pub fn word(&mut self, text: &[u8])
+        requires { ⌜ now self .at + 1 + length (now text) ≤ length (now (now self .buffer)) ⌝ }
+        ensures room { λ r. ⌜ length (now (now (self .exit) .buffer)) ≡ length (now (now (self .entry) .buffer)) ⌝ }
+        ensures at { λ r. ⌜ now (self .exit) .at ≡ now (self .entry) .at + 1 + length (now (text .entry)) ⌝ }
+        ensures holds { λ r. ⌜ ((xs before : List ℕ) → Holds (now (self .entry) .at) (now (now (self .entry) .buffer)) xs before → Holds (now (self .exit) .at) (now (now (self .exit) .buffer)) (xs ++ (32 ∷ now (text .entry))) before) ⌝ }
+        ensures lender { λ r. ⌜ name (now (self .exit) .buffer) ≡ name (now (self .entry) .buffer) ⌝ }
+    {
+        self.bytes(b" ");
+        self.bytes(text);
+    }
+
+    /// A space and the digits of a number.
+    pub fn figure_word(&mut self, n: u128)
+        requires { ⌜ now self .at + 1 + length (figure n) ≤ length (now (now self .buffer)) ⌝ }
+        ensures room { λ r. ⌜ length (now (now (self .exit) .buffer)) ≡ length (now (now (self .entry) .buffer)) ⌝ }
+        ensures at { λ r. ⌜ now (self .exit) .at ≡ now (self .entry) .at + 1 + length (figure n) ⌝ }
+        ensures holds { λ r. ⌜ ((xs before : List ℕ) → Holds (now (self .entry) .at) (now (now (self .entry) .buffer)) xs before → Holds (now (self .exit) .at) (now (now (self .exit) .buffer)) (xs ++ (32 ∷ figure n)) before) ⌝ }
+        ensures lender { λ r. ⌜ name (now (self .exit) .buffer) ≡ name (now (self .entry) .buffer) ⌝ }
+    {
+        self.bytes(b" ");
+        self.figure(n);
     }
 }
 
