@@ -15,5 +15,6 @@ pub mod Escrow
 pub mod Backing
 pub mod Supply
 pub mod Events
-pub mod Whole
+pub mod Unlocked
 pub mod Counts
+pub mod Whole

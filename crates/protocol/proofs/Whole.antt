@@ -1,4 +1,5 @@
 -- The three parts together, with open packets told by what has happened.
+use mathlib.Core.Logic.{⊎-elim, _≢_}
 use mathlib.Core.Path.{_≡_, refl, sym, ap, ap₂, _∙_}
 use mathlib.Core.Bool.{Bool, true, false, _&&_, not, cond}
 use mathlib.Core.List.{List, [], _∷_, _++_, map}
@@ -7,15 +8,18 @@ use native.Mathlib.Omega.{arith}
 use lib.Dec.{eqb}
 use lib.ListN.{length, getD, set}
 use Rattle.std.proofs.shelf.Lists.{append-nil, map-push, map-set, set-getD, getD-map}
-use Rattle.std.proofs.shelf.Tests.{eq-eqb, ne-eqb}
+use Rattle.std.proofs.shelf.Tests.{lt-ltb, cases-bool, eq-eqb, ne-eqb}
 use Rattle.sums.specs.Sums.{gate, total}
-use Rattle.denom.specs.Denomination.{came-by, Denom, behind}
+use Rattle.denom.specs.Denomination.{same-denom, came-by, Denom, behind}
+use Rattle.protocol.specs.House.{escrow-account}
 use Rattle.protocol.specs.Ledger.{Ledger}
 use Rattle.protocol.specs.Book.{Book, is-one}
-use Rattle.protocol.specs.World.{from-end, Packet, World, is-open, open-packets, on-lane-with, of-token, back, to-end, lane, mark-at}
+use Rattle.protocol.specs.World.{number, escrow, no-denom, from-end, Packet, World, is-open, open-packets, on-lane-with, of-token, back, to-end, lane, mark-at}
 use Rattle.protocol.specs.Calls.{Answer, done, says, Call, open-link, issue, retire, pay, send, receive, ack, timeout, tick, bar, unbar, home, refusals, outcome, no-packet, no-more-standing, ended, mark-written, refunded, packet-place, packet-at, arrival-mark, sent-packet}
-use Rattle.protocol.specs.Laws.{Backed, Supply-accounted, world, answer, sent-if, all-sent, Conservation, settlements, open-after}
+use Rattle.protocol.specs.Audit.{denom-at, escrow-held, vouchers, escrow-open}
+use Rattle.protocol.specs.Laws.{Within, Backed, Supply-accounted, world, answer, sent-if, all-sent, Conservation, settlements, open-after}
 use Rattle.protocol.proofs.Sums.{total-same}
+use Rattle.protocol.proofs.Places.{place-first, place-hit, same-denom-refl, same-denom-true}
 use Rattle.protocol.proofs.Homes.{length-ends}
 use Rattle.protocol.proofs.Views.{Clear, step-by, ack-facts, timeout-facts}
 use Rattle.protocol.proofs.Moves.{arrival-by}
@@ -23,6 +27,8 @@ use Rattle.protocol.proofs.Tokens.{tokens-conserved}
 use Rattle.protocol.proofs.Backing.{backed-world}
 use Rattle.protocol.proofs.Supply.{supply-is}
 use Rattle.protocol.proofs.Events.{tells-world, settled-once}
+use Rattle.protocol.proofs.Unlocked.{unlocked-world}
+use Rattle.protocol.proofs.Counts.{bounded}
 
 told : (b : Bool) (n : ℕ) → n ≡ gate (not b) 1 → eqb n 0 ≡ b
 told true n h = eq-eqb n 0 h
@@ -128,11 +134,47 @@ conservation l bs =
       once = settled-once l bs;
     }
 
+-- a denomination with number d is found under d
+number-is :
+    (w : World) (c d : ℕ) → Within w → d < length (w .register c) → number w c (getD (w .register c) d no-denom) ≡ d
+number-is w c d f l =
+    let e = getD (w .register c) d no-denom in
+    let le = place-first (same-denom e) (w .register c) d no-denom l (same-denom-refl e) in
+    let lt : number w c e < length (w .register c) = omega arith in
+    let is = same-denom-true e (getD (w .register c) (number w c e) no-denom) (place-hit (same-denom e) (w .register c) no-denom lt) in
+    f .denoms-differ c (number w c e) d lt l (sym is)
+
+-- so the ledger's own figure under d is its escrow
+escrow-is :
+    (w : World) (L D d : ℕ) → Within w → d < length (w .register (from-end (w .links) (lane L D) .chain)) →
+    escrow w (from-end (w .links) (lane L D) .chain) (from-end (w .links) (lane L D) .channel) (denom-at w L D d) ≡
+    escrow-held w L D d
+escrow-is w L D d f l =
+    let c = from-end (w .links) (lane L D) .chain in
+    let k = from-end (w .links) (lane L D) .channel in
+    let n = number-is w c d f l in
+    ap₂ (λ x y. gate x (w .ledger .balance c (escrow-account k) y)) (lt-ltb (number w c (denom-at w L D d)) (length (w .register c)) (omega arith)) n
+
+-- a line of escrow is of a denomination that did not come by that end's channel, so the law applies
+escrow-line-adds :
+    (l : Ledger) (bs : Bool → Book) (past : List Call) (L D d : ℕ) →
+    let w = world l bs past in
+    L < length (w .links) → D ≤ 1 → d < length (w .register (from-end (w .links) (lane L D) .chain)) →
+    escrow-held w L D d ≢ 0 → escrow-held w L D d ≡ vouchers w L D d + escrow-open w L D d
+escrow-line-adds l bs past L D d hl hd in′ some =
+    let w = world l bs past in
+    let near = from-end (w .links) (lane L D) in
+    ⊎-elim
+    (λ came. absurd (some (unlocked-world l bs past (near .chain) (near .channel) d in′ came)))
+    (λ not-back. omega (arith, backed-lane l bs past L D (denom-at w L D d) hl hd not-back, escrow-is w L D d (bounded l bs past) in′))
+    (cases-bool (came-by (near .channel) (denom-at w L D d)))
+
 pub supply-accounted : Supply-accounted
 supply-accounted l bs =
     record {
       supplied = λ past t.
           omega (arith, supply-is l bs past t, open-is l bs past (of-token (world l bs past) t) (λ p. refl));
-      audited = supply-is l bs;
-      audited-escrow = backed-lane l bs;
+      token-adds-up = supply-is l bs;
+      escrow-adds-up = escrow-line-adds l bs;
+      escrow-backs = backed-lane l bs;
     }
