@@ -33,9 +33,11 @@ use Rattle.protocol.proofs.Kept.{sound-at, good-world}
 
 -- Supplies
 
+-- no supply passes 2^64 - 1
 abbrev Supplies : Balances → Type 0
 Supplies b = (c d : ℕ) → supply b c d ≤ most
 
+-- a credit that is not too large
 supplies-credit :
     (b : Balances) (c u d n : ℕ) → too-large b c d n ≡ false → Supplies b → Supplies (credited b c u d n)
 supplies-credit b c u d n h s c′ d′ =
@@ -50,6 +52,7 @@ supplies-credit b c u d n h s c′ d′ =
     go true false z f g e = omega (arith, s c′ d′)
     go false y z f g e = omega (arith, s c′ d′)
 
+-- a debit of what is there
 supplies-debit : (b : Balances) (c u d n : ℕ) → n ≤ b c u d → Supplies b → Supplies (debited b c u d n)
 supplies-debit b c u d n h s c′ d′ =
     omega (
@@ -58,11 +61,13 @@ supplies-debit b c u d n h s c′ d′ =
       s c′ d′,
     )
 
+-- what counts under two tests counts under one
 gate-under : (x y : Bool) (n : ℕ) → gate (x && y) n ≤ gate (true && y) n
 gate-under true y n = omega arith
 gate-under false true n = omega arith
 gate-under false false n = omega arith
 
+-- a move of what is there
 supplies-move :
     (b : Balances) (c a a′ d n : ℕ) → a < accounts → n ≤ b c a d → Supplies b → Supplies (moved b c a a′ d n)
 supplies-move b c a a′ d n l h s c′ d′ =
@@ -76,11 +81,13 @@ supplies-move b c a a′ d n l h s c′ d′ =
 
 -- Registers
 
+-- registers within their counts, without repeats, with proper denominations
 record Registers-fine (reg : Registers) : Type 0 where
   few : (c : ℕ) → length (reg c) ≤ denoms-most
   apart : (c : ℕ) → Distinct no-denom (reg c)
   proper : (c d : ℕ) → d < length (reg c) → is-denom (getD (reg c) d no-denom) ≡ true
 
+-- a proper denomination enrolled where there is room
 fine-grown :
     (reg : Registers) (c : ℕ) (e : Denom) → (not (found (same-denom e) (reg c)) && leb denoms-most (length (reg c))) ≡ false →
     is-denom e ≡ true → Registers-fine reg → Registers-fine (grown reg c e)
@@ -131,10 +138,12 @@ behind-proper j e j-in short h =
 
 -- Tokens
 
+-- the same of tokens
 record Tokens-fine (ts : List Token) : Type 0 where
   few : length ts ≤ tokens-most
   apart : Distinct (token-at 0 []) ts
 
+-- a token enrolled where there is room
 token-fine :
     (w : World) (t : Token) → (not (token-known w t) && leb tokens-most (length (w .tokens))) ≡ false → Tokens-fine (w .tokens) →
     Tokens-fine (token-enrolled w t .tokens)
@@ -159,6 +168,7 @@ token-fine w t r h = go (token-known w t) refl r
 
 -- Packets: each carries an amount within bounds
 
+-- an amount from 1 to 2^64 - 1
 abbrev Paid : Packet → Type 0
 Paid p = (1 ≤ p .amount) × (p .amount ≤ most)
 
@@ -173,13 +183,16 @@ record Fine (w : World) : Type 0 where
   heights : (c : ℕ) → w .height c ≤ most
   paid : All Paid (w .packets)
 
+-- other balances under the same bars
 lawful-bal : (w : World) → Fine w → (b : Balances) → Supplies b → Lawful (with-balances (w .ledger) b)
 lawful-bal w h b s = record { supplies = s; bars = h .lawful .bars }
 
+-- balances change
 fine-bal : (w : World) → Fine w → (b : Balances) → Supplies b → Fine (with-bal w b)
 fine-bal w h b s =
     record { lawful = lawful-bal w h b s; links = h .links; packets = h .packets; tokens = h .tokens; registers = h .registers; heights = h .heights; paid = h .paid }
 
+-- a refund
 fine-refunded :
     (w : World) (p : Packet) → Good w → Fine w → Sound (w .links) (w .register) p → refund-refused w p ≡ false → Fine (refunded w p)
 fine-refunded w p g h s r =
@@ -193,6 +206,7 @@ fine-refunded w p g h s r =
     fine-bal w h (moved b c (escrow-account k) (p .sender) d (p .amount))
     (supplies-move b c (escrow-account k) (p .sender) d (p .amount) (omega (arith, g .wired .narrow (p .lane) (s .lane-in))) enough (h .lawful .supplies)))
 
+-- a packet ends
 fine-ended : (w : World) (q : ℕ) → q < length (w .packets) → Fine w → Fine (ended w q)
 fine-ended w q l h =
     record {
@@ -205,10 +219,12 @@ fine-ended w q l h =
       paid = all-set Paid (w .packets) q (no-more-standing (getD (w .packets) q no-packet)) (all-getD Paid (w .packets) q no-packet l (h .paid)) (h .paid);
     }
 
+-- a mark is written
 fine-mark : (w : World) (i s m : ℕ) → Fine w → Fine (mark-written w i s m)
 fine-mark w i s m h =
     record { lawful = h .lawful; links = h .links; packets = h .packets; tokens = h .tokens; registers = h .registers; heights = h .heights; paid = h .paid }
 
+-- a user is barred or not, on a chain that serves bars
 fine-barred : (w : World) (c u : ℕ) (b : Bool) → not (w .ledger .serves-bars c) ≡ false → Fine w → Fine (with-ledger w (bar-set (w .ledger) c u b))
 fine-barred w c u b r h =
     record {
@@ -235,6 +251,7 @@ denom-proper w p h s =
     let c = near w p .chain in
     subst (λ (e : Denom). is-denom e ≡ true) (s .named .1) (h .registers .proper c (place (same-denom (p .denom)) (w .register c)) (s .named .0))
 
+-- every call
 fine-outcome : (w : World) (c : Call) → Good w → Fine w → Clear (refusals w c) → Fine (outcome w c .0)
 fine-outcome w (open-link a b k) g h r =
     record {
@@ -347,6 +364,7 @@ fine-outcome w (bar c u) g h r = fine-barred w c u true (r .1 .1 .0) h
 fine-outcome w (unbar c u) g h r = fine-barred w c u false (r .1 .1 .0) h
 fine-outcome w (home c e) g h r = h
 
+-- a world as it is made
 fine-made : (l : Ledger) (bs : Bool → Book) → Fine (made l bs)
 fine-made l bs =
     record {
@@ -359,12 +377,14 @@ fine-made l bs =
       paid = tt;
     }
 
+-- at every moment
 fine-world : (l : Ledger) (bs : Bool → Book) (past : List Call) → Fine (world l bs past)
 fine-world l bs [] = fine-made l bs
 fine-world l bs (c ∷ past) =
     step-by (world l bs past) c (λ r. Fine (r .0)) (λ _. fine-world l bs past)
     (fine-outcome (world l bs past) c (good-world l bs past) (fine-world l bs past))
 
+-- what is fine and good of a world is within bounds
 pub bounded : Bounded
 bounded l bs past =
     let w = world l bs past in

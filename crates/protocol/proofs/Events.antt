@@ -43,6 +43,7 @@ Tells w ev bd =
     ((i s : ℕ) → ((q : ℕ) → q < length (w .packets) → key (getD (w .packets) q no-packet) ≡ (i, s) → ⊥) →
     (ev i s ≡ 0) × (bd i s ≡ false))
 
+-- figures that are the same tell the same
 tells-as :
     (w : World) (ev ev′ : ℕ → ℕ → ℕ) (bd bd′ : ℕ → ℕ → Bool) → ((i s : ℕ) → ev′ i s ≡ ev i s) → ((i s : ℕ) → bd′ i s ≡ bd i s) →
     Tells w ev bd → Tells w ev′ bd′
@@ -69,11 +70,13 @@ about-other i s p ne = bool-false (eqb i (p .lane) && eqb s (p .sequence)) (λ t
     let y = eqb-true s (p .sequence) (b .1) in
     ne (λ k. (sym x k, sym y k)))
 
+-- a call about a packet's key is about it
 about-this : (i s : ℕ) (p : Packet) → key p ≡ (i, s) → (eqb i (p .lane) && eqb s (p .sequence)) ≡ true
 about-this i s p e =
     and-from (eqb i (p .lane)) (eqb s (p .sequence)) (eq-eqb i (p .lane) (ap (λ (k : Key). k .0) (sym e)))
     (eq-eqb s (p .sequence) (ap (λ (k : Key). k .1) (sym e)))
 
+-- keys apart
 about-key : (i s j r : ℕ) → (_≡_ {A = Key} (i, s) (j, r) → ⊥) → (eqb i j && eqb s r) ≡ false
 about-key i s j r ne = bool-false (eqb i j && eqb s r) (λ t.
     let b = and-parts (eqb i j) (eqb s r) t in
@@ -84,6 +87,7 @@ about-key i s j r ne = bool-false (eqb i j && eqb s r) (λ t.
 -- Marks
 
 module _ (w : World) (i s m : ℕ) where
+  -- a mark under another key stays
   mark-other : (p : Packet) → (key p ≡ (i, s) → ⊥) → mark-of (mark-written w i s m) p ≡ mark-of w p
   mark-other p ne = go (same-kind (link-kind w (p .lane)) (link-kind w i))
     where
@@ -100,6 +104,7 @@ module _ (w : World) (i s m : ℕ) where
       go false = refl
       go true = inner (eqb (p .lane) i) (eqb (p .sequence) s) (eqb-true (p .lane) i) (eqb-true (p .sequence) s)
 
+  -- the mark under this key is the one written
   mark-here : (p : Packet) → key p ≡ (i, s) → mark-of (mark-written w i s m) p ≡ Some m
   mark-here p e =
       ap (λ (k : Key). mark-written w i s m .books (link-kind w (k .0)) .mark (k .0) (k .1)) e ∙
@@ -114,6 +119,7 @@ module _ (w : World) (i s m : ℕ) where
 -- One call
 
 module _ (w : World) (g : Good w) (G R : ℕ → ℕ → ℕ) (B : ℕ → ℕ → Bool) (t : Tells w (λ i s. G i s + R i s) B) where
+  -- what is told after a call with this answer
   abbrev After : Call → World × Answer → Type 0
   After c r =
       Tells
@@ -125,6 +131,7 @@ module _ (w : World) (g : Good w) (G R : ℕ → ℕ → ℕ) (B : ℕ → ℕ �
   quiet : (w′ : World) → Tells w′ (λ i s. G i s + R i s) B → Tells w′ (λ i s. (G i s + 0) + (R i s + 0)) (λ i s. B i s || false)
   quiet w′ = tells-as w′ (λ i s. G i s + R i s) (λ i s. (G i s + 0) + (R i s + 0)) B (λ i s. B i s || false) (λ i s. omega arith) (λ i s. or-false (B i s))
 
+  -- a refused call tells nothing new
   tells-refused : (c : Call) (n : ℕ) → After c (w, no n)
   tells-refused c n =
       tells-as w (λ i s. G i s + R i s) (λ i s. (G i s + gate (good-receipt i s c (no n)) 1) + (R i s + 0)) B
@@ -133,6 +140,7 @@ module _ (w : World) (g : Good w) (G R : ℕ → ℕ → ℕ) (B : ℕ → ℕ �
       (λ i s. ap (λ x. B i s || x) (and-false (receives i s c)) ∙ or-false (B i s))
       t
 
+  -- a link opened leaves all marks
   tells-open : (a b : ℕ) (k : Bool) → Tells (outcome w (open-link a b k) .0) (λ i s. G i s + R i s) B
   tells-open a b k = (
     λ q l.
@@ -147,6 +155,7 @@ module _ (w : World) (g : Good w) (G R : ℕ → ℕ → ℕ) (B : ℕ → ℕ �
     t .1,
   )
 
+  -- a packet sent is not settled, since its key is new
   tells-send :
       (c k u v : ℕ) (e : Denom) (n T : ℕ) → Tells (outcome w (send c k u v e n T) .0) (λ i s. G i s + R i s) B
   tells-send c k u v e n T =
@@ -264,12 +273,6 @@ module _ (w : World) (g : Good w) (G R : ℕ → ℕ → ℕ) (B : ℕ → ℕ �
         (omega (arith, t .1 j r u .0, ap (λ x. gate (x && counts (B j r)) 1) a), or-false (B j r) ∙ t .1 j r u .1),
   )
     where
-      p₀ : Packet
-      p₀ = packet-at w i s
-
-      ps : List Packet
-      ps = set (w .packets) (packet-place w i s) (no-more-standing (packet-at w i s))
-
       Told : ℕ → Type 0
       Told q =
           ((G (getD (set (w .packets) (packet-place w i s) (no-more-standing (packet-at w i s))) q no-packet .lane) (getD (set (w .packets) (packet-place w i s) (no-more-standing (packet-at w i s))) q no-packet .sequence) + 0) +
@@ -310,6 +313,7 @@ module _ (w : World) (g : Good w) (G R : ℕ → ℕ → ℕ) (B : ℕ → ℕ �
           (λ ne. ap key (getD-set-other (w .packets) (packet-place w i s) q (no-more-standing (packet-at w i s)) no-packet ne))
           (cases-eq q (packet-place w i s))
 
+  -- every call
   tells-outcome : (c : Call) → Clear (refusals w c) → After c (outcome w c)
   tells-outcome (open-link a b k) h = quiet (outcome w (open-link a b k) .0) (tells-open a b k)
   tells-outcome (issue c u s n) h = quiet (outcome w (issue c u s n) .0) t
@@ -366,6 +370,7 @@ module _ (w : World) (g : Good w) (G R : ℕ → ℕ → ℕ) (B : ℕ → ℕ �
   tells-outcome (home c e) h = quiet w t
 
 module _ (l : Ledger) (bs : Bool → Book) where
+  -- at every moment the settlements of a packet are told by its standing and mark
   pub tells-world :
       (past : List Call) →
       Tells (world l bs past) (λ i s. settlements l bs i s past) (λ i s. badly-received l bs i s past)
@@ -380,17 +385,21 @@ module _ (l : Ledger) (bs : Bool → Book) where
 
 -- A packet once sent stays in its place; only its standing changes.
 
+-- each packet is in its place, the same but for its standing
 abbrev pub Stays : List Packet → List Packet → Type 0
 Stays ps ps′ =
     (q : ℕ) → q < length ps →
     (q < length ps′) × (no-more-standing (getD ps′ q no-packet) ≡ no-more-standing (getD ps q no-packet))
 
+-- nothing changed
 stays-same : (ps : List Packet) → Stays ps ps
 stays-same ps q l = (l, refl)
 
+-- a packet recorded behind
 stays-push : (ps : List Packet) (p : Packet) → Stays ps (ps ++ p ∷ [])
 stays-push ps p q l = (omega (arith, length-push ps p), ap no-more-standing (getD-append-left ps (p ∷ []) no-packet q l))
 
+-- a packet that ends
 stays-set : (ps : List Packet) (r : ℕ) → r < length ps → Stays ps (set ps r (no-more-standing (getD ps r no-packet)))
 stays-set ps r m q l = (
   rw length-set l,
@@ -400,6 +409,7 @@ stays-set ps r m q l = (
       (cases-eq q r),
 )
 
+-- every call
 stays-outcome : (w : World) (c : Call) → Clear (refusals w c) → Stays (w .packets) (outcome w c .0 .packets)
 stays-outcome w (open-link a b k) h = stays-same (w .packets)
 stays-outcome w (issue c u s n) h = stays-same (w .packets)
@@ -424,6 +434,7 @@ stays-outcome w (unbar c u) h = stays-same (w .packets)
 stays-outcome w (home c e) h = stays-same (w .packets)
 
 module _ (l : Ledger) (bs : Bool → Book) where
+  -- from any moment to any later one
   pub stays-world : (later past : List Call) → Stays (world l bs past .packets) (world l bs (later ++ past) .packets)
   stays-world [] past = stays-same (world l bs past .packets)
   stays-world (c ∷ later) past = λ q h.

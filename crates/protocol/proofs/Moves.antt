@@ -17,6 +17,7 @@ use Rattle.protocol.proofs.Views.{Clear, clear-first, is-none}
 
 -- what a ledger that does not refuse tells
 
+-- a list of refusals none of which applies
 clear-of : (rs : List Refusal) → refused rs ≡ false → Clear rs
 clear-of rs h = clear-first rs (is-none (first rs) h)
 
@@ -34,15 +35,18 @@ module _ (w : World) (p : Packet) where
   abbrev pub near : End
   near = from-end (w .links) (p .lane)
 
+  -- the end that it goes to
   abbrev pub far : End
   far = to-end (w .links) (p .lane)
 
+  -- the world in which it has come home
   abbrev pub homeward : World
   homeward =
       with-bal
       w
       (moved (w .ledger .balance) (far .chain) (escrow-account (far .channel)) (p .receiver) (number w (far .chain) (stripped (p .denom))) (p .amount))
 
+  -- the world in which it has gone out
   abbrev pub outward : World
   outward =
       with-bal
@@ -70,15 +74,19 @@ module _ (w : World) (p : Packet) where
       not (registered w (far .chain) (stripped (p .denom)))
       || refused (move-refusals (w .ledger) (far .chain) (escrow-account (far .channel)) (p .receiver) (number w (far .chain) (stripped (p .denom))) (p .amount))
 
+  -- too many hops
   abbrev out-long : Bool
   out-long = leb hops-most (length (p .denom .hops))
 
+  -- no room for a new voucher
   abbrev out-full : Bool
   out-full = not (registered w (far .chain) (behind (far .channel) (p .denom))) && leb denoms-most (length (w .register (far .chain)))
 
+  -- the ledger refuses the credit
   abbrev out-bad : Bool
   out-bad = refused (credit-refusals (w .ledger) (far .chain) (p .receiver) (number w (far .chain) (behind (far .channel) (p .denom))) (p .amount))
 
+  -- mark 1 says that none of the three applies
   out-clear :
       (a b c : Bool) → eqb (mark-or-good (first (2 when a ∷ 3 when b ∷ 4 when c ∷ []))) 1 ≡ true →
       (a ≡ false) × (b ≡ false) × (c ≡ false)
@@ -87,6 +95,7 @@ module _ (w : World) (p : Packet) where
   out-clear false false true h = absurd (both-ways false refl h)
   out-clear false false false h = (refl, refl, refl)
 
+  -- mark 1 says that it comes home
   home-clear : (a : Bool) → eqb (mark-or-good (first (4 when a ∷ []))) 1 ≡ true → a ≡ false
   home-clear true h = absurd (both-ways false refl h)
   home-clear false h = refl

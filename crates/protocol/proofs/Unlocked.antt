@@ -20,6 +20,7 @@ use Rattle.protocol.proofs.Views.{Clear, step-by, issue-facts, pay-facts, send
 use Rattle.protocol.proofs.Moves.{near, far, arrival-by, refund-by, sent-by}
 use Rattle.protocol.proofs.Kept.{good-world, sound-at}
 
+-- the statement, by numbers
 abbrev pub Unlocked : Registers → Balances → Type 0
 Unlocked reg b =
     (c k d : ℕ) → d < length (reg c) → came-by k (getD (reg c) d no-denom) ≡ true → b c (escrow-account k) d ≡ 0
@@ -69,9 +70,11 @@ module _ (reg : Registers) (b : Balances) (c d : ℕ) (h : Unlocked reg b) where
       go true false r f g i = h c′ k d′ m came
       go false q r f g i = h c′ k d′ m came
 
+-- a debit
 unlocked-debit : (reg : Registers) (b : Balances) (c a d n : ℕ) → Unlocked reg b → Unlocked reg (debited b c a d n)
 unlocked-debit reg b c a d n h = unlocked-less reg b c d h a (b c a d - n) (omega arith)
 
+-- a credit to a user
 unlocked-credit : (reg : Registers) (b : Balances) (c u d n : ℕ) → u < users → Unlocked reg b → Unlocked reg (credited b c u d n)
 unlocked-credit reg b c u d n l h = unlocked-user reg b c d h u (b c u d + n) l
 
@@ -79,6 +82,7 @@ unlocked-credit reg b c u d n l h = unlocked-user reg b c d h u (b c u d + n) l
 unlocked-move : (reg : Registers) (b : Balances) (c a u d n : ℕ) → u < users → Unlocked reg b → Unlocked reg (moved b c a u d n)
 unlocked-move reg b c a u d n l h = unlocked-credit reg (debited b c a d n) c u d n l (unlocked-debit reg b c a d n h)
 
+-- a denomination enrolled: its balances are blank
 unlocked-grown :
     (reg : Registers) (b : Balances) (c : ℕ) (e : Denom) → Blank reg b → Unlocked reg b → Unlocked (grown reg c e) b
 unlocked-grown reg b c e blank h c′ k d m came =
@@ -87,9 +91,11 @@ unlocked-grown reg b c e blank h c′ k d m came =
     (λ l. blank c′ (escrow-account k) d l)
     (cases-lt d (length (reg c′)))
 
+-- the statement of a world
 abbrev Unlocked-in : World → Type 0
 Unlocked-in w = Unlocked (w .register) (w .ledger .balance)
 
+-- a refund goes to a user
 unlocked-refunded :
     (w : World) (p : Packet) → Sound (w .links) (w .register) p → refund-refused w p ≡ false → Unlocked-in w → Unlocked-in (refunded w p)
 unlocked-refunded w p s r h =
@@ -100,6 +106,7 @@ unlocked-refunded w p s r h =
     (λ _ _. unlocked-credit (w .register) b c (p .sender) d (p .amount) (s .sender-in) h)
     (λ _ _. unlocked-move (w .register) b c (escrow-account (near w p .channel)) (p .sender) d (p .amount) (s .sender-in) h)
 
+-- every call
 unlocked-outcome : (w : World) (c : Call) → Good w → Unlocked-in w → Clear (refusals w c) → Unlocked-in (outcome w c .0)
 unlocked-outcome w (open-link a b k) g h r = h
 unlocked-outcome w (issue c u s n) g h r =
@@ -144,6 +151,7 @@ unlocked-outcome w (bar c u) g h r = h
 unlocked-outcome w (unbar c u) g h r = h
 unlocked-outcome w (home c e) g h r = h
 
+-- at every moment
 pub unlocked-world : (l : Ledger) (bs : Bool → Book) (past : List Call) → Unlocked-in (world l bs past)
 unlocked-world l bs [] = λ c k d m came. refl
 unlocked-world l bs (c ∷ past) =

@@ -30,6 +30,7 @@ use Rattle.protocol.proofs.Events.{tells-world, settled-once}
 use Rattle.protocol.proofs.Unlocked.{unlocked-world}
 use Rattle.protocol.proofs.Counts.{bounded}
 
+-- not settled is open
 told : (b : Bool) (n : ℕ) → n ≡ gate (not b) 1 → eqb n 0 ≡ b
 told true n h = eq-eqb n 0 h
 told false n h = ne-eqb n 0 (λ e. omega arith)
@@ -37,13 +38,16 @@ told false n h = ne-eqb n 0 (λ e. omega arith)
 -- the world's packets are the sent ones, but for their standing
 
 module _ (w : World) where
+  -- a call adds the packet that its answer tells
   abbrev Adds : Call → World × Answer → Type 0
   Adds c r =
       map no-more-standing (r .0 .packets) ≡ map no-more-standing (w .packets) ++ sent-if (w .links) c (r .1)
 
+  -- no packet
   none-added : map no-more-standing (w .packets) ≡ map no-more-standing (w .packets) ++ []
   none-added = sym (append-nil (map no-more-standing (w .packets)))
 
+  -- a packet that ends is the same but for its standing
   ended-adds :
       (q : ℕ) → q < length (w .packets) →
       map no-more-standing (set (w .packets) q (no-more-standing (getD (w .packets) q no-packet))) ≡
@@ -54,6 +58,7 @@ module _ (w : World) where
       set-getD (map no-more-standing (w .packets)) q no-packet ∙
       none-added
 
+  -- every call
   adds-outcome : (c : Call) → Clear (refusals w c) → Adds c (outcome w c)
   adds-outcome (open-link a b k) h = none-added
   adds-outcome (issue c u s n) h = none-added
@@ -77,6 +82,7 @@ module _ (w : World) where
   adds-outcome (unbar c u) h = none-added
   adds-outcome (home c e) h = none-added
 
+-- at every moment
 pub packets-are-sent :
     (l : Ledger) (bs : Bool → Book) (past : List Call) →
     map no-more-standing (world l bs past .packets) ≡ all-sent l bs past
@@ -86,10 +92,12 @@ packets-are-sent l bs (c ∷ past) =
     step-by w c (Adds w c) (λ _. none-added w) (adds-outcome w c) ∙
     ap (λ (ps : List Packet). ps ++ sent-if (w .links) c (answer l bs c past)) (packets-are-sent l bs past)
 
+-- a total over packets without their standing
 total-map : (f : Packet → ℕ) (ps : List Packet) → total f (map no-more-standing ps) ≡ total (λ p. f (no-more-standing p)) ps
 total-map f [] = refl
 total-map f (p ∷ ps) = ap (λ n. f (no-more-standing p) + n) (total-map f ps)
 
+-- open by what has happened is open by standing and mark, for any test that does not look at the standing
 pub open-is :
     (l : Ledger) (bs : Bool → Book) (past : List Call) (test : Packet → Bool) →
     ((p : Packet) → test (no-more-standing p) ≡ test p) →
@@ -112,6 +120,7 @@ backed-lane :
 backed-lane l bs past L D e hl hd nb =
     backed-world l bs past (lane L D) e (omega (arith, length-ends (world l bs past .links))) nb
 
+-- conservation
 pub conservation : Conservation
 conservation l bs =
     record {
@@ -169,6 +178,7 @@ escrow-line-adds l bs past L D d hl hd in′ some =
     (λ not-back. omega (arith, backed-lane l bs past L D (denom-at w L D d) hl hd not-back, escrow-is w L D d (bounded l bs past) in′))
     (cases-bool (came-by (near .channel) (denom-at w L D d)))
 
+-- what is issued is accounted for
 pub supply-accounted : Supply-accounted
 supply-accounted l bs =
     record {
