@@ -17,7 +17,7 @@ use Rattle.denom.specs.Denomination.{Denom, hopless, behind, stripped, came-by,
 use Rattle.protocol.specs.House.{channels-most, escrow-account}
 use Rattle.protocol.specs.Ledger.{Ledger, supply, debited, moved}
 use Rattle.protocol.specs.Book.{Book, is-one}
-use Rattle.protocol.specs.World.{End, Link, Packet, World, ends, back, from-end, to-end, end-at, lane-out, lowest-unused, number, no-end, mark-of, is-open, same-end, escrow, supply-of, open-packets, on-lane-with, lane, no-link, mark-at}
+use Rattle.protocol.specs.World.{End, Link, Packet, World, ends, back, from-end, to-end, end-at, lane-out, lowest-unused, number, no-end, mark-of, is-open, same-end, escrow, supply-of, open-packets, on-lane-with, lane, no-link, mark-at, near, far}
 use Rattle.protocol.specs.Calls.{Call, open-link, issue, retire, pay, send, receive, ack, timeout, tick, bar, unbar, home, refusals, outcome, with-bal, with-links, recorded, ended, mark-written, no-packet, packet-place, packet-at, arrival-mark, refunded, refund-refused, sent-packet, next-sequence}
 use Rattle.protocol.specs.Laws.{world, Backed}
 use Rattle.protocol.proofs.Bools.{and-false}
@@ -28,7 +28,7 @@ use Rattle.protocol.proofs.Good.{Sound, Good, grown, grown-number, names-found
 use Rattle.protocol.proofs.Grow.{on-lane-keys}
 use Rattle.protocol.proofs.Amounts.{open-push, open-ended, open-mark}
 use Rattle.protocol.proofs.Views.{Clear, step-by, issue-facts, retire-facts, pay-facts, send-facts, Stands, marked-at, receive-facts, ack-facts, timeout-facts}
-use Rattle.protocol.proofs.Moves.{near, far, arrival-by, refund-by, sent-by}
+use Rattle.protocol.proofs.Moves.{arrival-by, refund-by, sent-by}
 use Rattle.protocol.proofs.Kept.{good-outcome, sound-at, good-world}
 use Rattle.protocol.proofs.Lanes.{out-never, home-never, burn-is, lock-is, mint-is, free-is}
 use Rattle.protocol.proofs.Escrow.{Placed, esc-user, esc-credit, esc-debit, esc-move, sup-credit, sup-debit, sup-move, esc-grown, sup-grown, placed-grown}

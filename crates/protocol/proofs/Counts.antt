@@ -1,12 +1,12 @@
 -- The house's bounds, the ledger's two laws and registers without repeats hold at every moment.
 use mathlib.Core.Path.{_≡_, refl, sym, ap, ap₂, _∙_, subst}
-use mathlib.Core.Logic.{_⊎_, ⊎-elim}
-use mathlib.Core.Bool.{Bool, true, false, _&&_, _||_, cond, not}
+use mathlib.Core.Logic.{⊎-elim}
+use mathlib.Core.Bool.{Bool, true, false, _&&_, cond, not}
 use mathlib.Core.List.{List, [], _∷_, _++_}
-use Prim.Native.Nat.{ℕ, zero, suc, _+_, _<_, _≤_}
+use Prim.Native.Nat.{ℕ, suc, _+_, _<_, _≤_}
 use native.Mathlib.Omega.{arith}
 use lib.Dec.{eqb, ltb, leb}
-use lib.ListN.{length, getD, set}
+use lib.ListN.{length, getD}
 use Rattle.std.specs.shelf.Lists.{All}
 use Rattle.std.proofs.shelf.Elements.{all-push, all-set, all-getD}
 use Rattle.std.proofs.shelf.Lists.{length-push, getD-push, length-set}
@@ -15,12 +15,12 @@ use Rattle.sums.specs.Sums.{gate}
 use Rattle.register.specs.Keys.{place, found}
 use Rattle.denom.specs.Denomination.{Denom, Token, same-denom, same-token, hopless, behind, stripped}
 use Rattle.denom.specs.Text.{each, is-trace, is-symbol, is-denom}
-use Rattle.protocol.specs.House.{most, links-most, packets-most, tokens-most, denoms-most, channels-most, hops-most, users, accounts, escrow-account}
+use Rattle.protocol.specs.House.{most, links-most, packets-most, tokens-most, denoms-most, channels-most, hops-most, accounts, escrow-account}
 use Rattle.protocol.specs.Ledger.{Ledger, Balances, supply, Lawful, credited, debited, moved, too-large, with-balances, bar-set}
 use Rattle.protocol.specs.Book.{Book, is-one}
-use Rattle.protocol.specs.World.{Packet, World, made, lane, no-denom, number, registered, mark-at, end-at, lowest-unused, back}
+use Rattle.protocol.specs.World.{Packet, World, made, lane, no-denom, number, registered, mark-at, end-at, lowest-unused, back, near, far}
 use Rattle.protocol.specs.Calls.{Call, open-link, issue, retire, pay, send, receive, ack, timeout, tick, bar, unbar, home, refusals, outcome, token-known, token-at, token-enrolled, packet-place, packet-at, no-packet, no-more-standing, arrival-mark, refunded, refund-refused, sent-packet, with-bal, with-ledger, ended, mark-written}
-use Rattle.protocol.specs.Laws.{world, Within, Bounded}
+use Rattle.protocol.specs.Laws.{world, Bounded}
 use Rattle.protocol.proofs.Sums.{sum-part, sum-zero}
 use Rattle.protocol.proofs.Measures.{supply-measure, credit-moves, debit-moves, move-moves}
 use Rattle.protocol.proofs.Places.{place-first, same-denom-refl, same-token-refl}
@@ -28,7 +28,7 @@ use Rattle.protocol.proofs.Homes.{back-in}
 use Rattle.protocol.proofs.Good.{Registers, Sound, Good, grown, grown-cases, grown-old}
 use Rattle.protocol.proofs.Grow.{Distinct, distinct-push}
 use Rattle.protocol.proofs.Views.{Clear, step-by, retire-facts, pay-facts, send-facts, receive-facts, ack-facts, timeout-facts}
-use Rattle.protocol.proofs.Moves.{near, far, homeward, outward, arrival-by, refund-by, sent-by}
+use Rattle.protocol.proofs.Moves.{homeward, outward, arrival-by, refund-by, sent-by}
 use Rattle.protocol.proofs.Kept.{sound-at, good-world}
 
 -- Supplies

@@ -12,14 +12,14 @@ use Rattle.denom.specs.Denomination.{Denom, hopless, behind, stripped, same-den
 use Rattle.protocol.specs.House.{escrow-account}
 use Rattle.protocol.specs.Ledger.{Ledger, Balances, credited, debited, moved}
 use Rattle.protocol.specs.Book.{Book, is-one}
-use Rattle.protocol.specs.World.{End, Link, Packet, World, made, back, end-at, lane-out, lowest-unused, number, lane, link-kind, mark-at}
+use Rattle.protocol.specs.World.{End, Link, Packet, World, made, back, end-at, lane-out, lowest-unused, number, lane, link-kind, mark-at, near, far}
 use Rattle.protocol.specs.Calls.{Call, open-link, issue, retire, pay, send, receive, ack, timeout, tick, bar, unbar, home, refusals, outcome, step, with-bal, ended, mark-written, no-packet, no-more-standing, packet-place, packet-at, arrival-mark, refunded, refund-refused, sent-packet}
 use Rattle.protocol.specs.Laws.{world}
 use Rattle.protocol.proofs.Homes.{Leads, leads-back, lane-of-end, back-in}
 use Rattle.protocol.proofs.Good.{Registers, Blank, Names, Idle, Used, idle-put, used-user, used-escrow, Sound, Key, no-key, key, Numbered, Good, blank-put, grown, grown-number, blank-grown, traced-grown, sound-grown}
 use Rattle.protocol.proofs.Grow.{wired-push, idle-links, lowest-is-unused, traced-links, sound-links, on-lane-keys, numbered-push, numbered-mark, keys-ended, sound-ended}
 use Rattle.protocol.proofs.Views.{Clear, step-by, open-facts, issue-facts, retire-facts, pay-facts, send-facts, Stands, receive-facts, ack-facts, timeout-facts}
-use Rattle.protocol.proofs.Moves.{near, far, homeward, outward, Homeward, arrival-by, refund-by, sent-by}
+use Rattle.protocol.proofs.Moves.{homeward, outward, Homeward, arrival-by, refund-by, sent-by}
 
 -- a world as it is made
 pub good-made : (l : Ledger) (bs : Bool → Book) → Good (made l bs)

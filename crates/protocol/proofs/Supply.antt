@@ -13,7 +13,7 @@ use Rattle.denom.specs.Denomination.{Denom, Token, same-list, same-denom, same-
 use Rattle.protocol.specs.House.{chains-most, channels-most, escrow-account}
 use Rattle.protocol.specs.Ledger.{Ledger, users-hold}
 use Rattle.protocol.specs.Book.{Book, is-one}
-use Rattle.protocol.specs.World.{End, Packet, World, made, lane, number, back, home-of, held, supply-of, mark-at, lane-out}
+use Rattle.protocol.specs.World.{End, Packet, World, made, lane, number, back, home-of, held, supply-of, mark-at, lane-out, near, far}
 use Rattle.protocol.specs.Calls.{Call, open-link, issue, retire, pay, send, receive, ack, timeout, tick, bar, unbar, home, Answer, done, says, refusals, outcome, with-bal, recorded, ended, mark-written, packet-place, packet-at, arrival-mark, refunded, refund-refused, sent-packet, next-sequence}
 use Rattle.protocol.specs.Laws.{world, accepted, issues, retires, issued, retired}
 use Rattle.protocol.proofs.Bools.{bool-same, and-false}
@@ -22,7 +22,7 @@ use Rattle.protocol.proofs.Places.{same-list-true, same-list-refl}
 use Rattle.protocol.proofs.Homes.{back-in}
 use Rattle.protocol.proofs.Good.{Sound, Good, grown, grown-number}
 use Rattle.protocol.proofs.Views.{Clear, step-by, issue-facts, retire-facts, pay-facts, send-facts, receive-facts, ack-facts, timeout-facts}
-use Rattle.protocol.proofs.Moves.{near, far, homeward, outward, Homeward, arrival-by, refund-by, sent-by}
+use Rattle.protocol.proofs.Moves.{homeward, outward, Homeward, arrival-by, refund-by, sent-by}
 use Rattle.protocol.proofs.Kept.{good-world, sound-at}
 use Rattle.protocol.proofs.Tokens.{amount-of, tokens-conserved}
 use Rattle.protocol.proofs.Escrow.{Placed, sup-credit, sup-debit, sup-move, sup-grown, placed-grown}

@@ -14,7 +14,7 @@ use Rattle.denom.specs.Denomination.{Denom, Token, hopless, behind, stripped, s
 use Rattle.protocol.specs.House.{chains-most, users, escrow-account}
 use Rattle.protocol.specs.Ledger.{Balances, credited, debited, moved, Ledger}
 use Rattle.protocol.specs.Book.{is-one, Book}
-use Rattle.protocol.specs.World.{End, Link, Packet, World, back, end-at, lane-out, lowest-unused, number, mark-of, is-open, home-of, home-by, held, open-packets, of-token, lane, no-link, mark-at}
+use Rattle.protocol.specs.World.{End, Link, Packet, World, back, end-at, lane-out, lowest-unused, number, mark-of, is-open, home-of, home-by, held, open-packets, of-token, lane, no-link, mark-at, near, far}
 use Rattle.protocol.specs.Calls.{Answer, done, says, home-is, Call, open-link, issue, retire, pay, send, receive, ack, timeout, tick, bar, unbar, home, refusals, outcome, step, with-bal, with-links, recorded, ended, mark-written, no-packet, packet-place, packet-at, arrival-mark, refunded, refund-refused, sent-packet, next-sequence}
 use Rattle.protocol.specs.Laws.{there-is, world, accepted, issues, retires, retired, issued}
 use Rattle.protocol.proofs.Sums.{total-same}
@@ -24,7 +24,7 @@ use Rattle.protocol.proofs.Good.{Registers, Names, Sound, Good, grown, grown-n
 use Rattle.protocol.proofs.Grow.{on-lane-keys}
 use Rattle.protocol.proofs.Amounts.{Held, held-weight, held-measure, weight-user, weight-escrow, held-grown, held-links, home-stays, open-push, open-ended, open-mark}
 use Rattle.protocol.proofs.Views.{Clear, step-by, issue-facts, retire-facts, pay-facts, send-facts, Stands, marked-at, receive-facts, ack-facts, timeout-facts}
-use Rattle.protocol.proofs.Moves.{near, far, homeward, outward, Homeward, arrival-by, refund-by, sent-by}
+use Rattle.protocol.proofs.Moves.{homeward, outward, Homeward, arrival-by, refund-by, sent-by}
 use Rattle.protocol.proofs.Kept.{good-world, sound-at, leads-near}
 
 -- What users hold, where one balance changes under the number of e on c

@@ -12,12 +12,12 @@ use Rattle.denom.specs.Denomination.{Denom, hopless, behind, stripped, came-by}
 use Rattle.protocol.specs.House.{users, escrow-account}
 use Rattle.protocol.specs.Ledger.{Ledger, Balances, put, credited, debited, moved}
 use Rattle.protocol.specs.Book.{Book, is-one}
-use Rattle.protocol.specs.World.{Packet, World, lane, number, no-denom, mark-at}
+use Rattle.protocol.specs.World.{Packet, World, lane, number, no-denom, mark-at, near, far}
 use Rattle.protocol.specs.Calls.{Call, open-link, issue, retire, pay, send, receive, ack, timeout, tick, bar, unbar, home, refusals, outcome, ended, mark-written, packet-place, packet-at, arrival-mark, refunded, refund-refused}
 use Rattle.protocol.specs.Laws.{world}
 use Rattle.protocol.proofs.Good.{Registers, Blank, Names, Sound, Good, grown, grown-old}
 use Rattle.protocol.proofs.Views.{Clear, step-by, issue-facts, pay-facts, send-facts, receive-facts, ack-facts, timeout-facts}
-use Rattle.protocol.proofs.Moves.{near, far, arrival-by, refund-by, sent-by}
+use Rattle.protocol.proofs.Moves.{arrival-by, refund-by, sent-by}
 use Rattle.protocol.proofs.Kept.{good-world, sound-at}
 
 -- the statement, by numbers
