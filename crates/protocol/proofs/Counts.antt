@@ -2,16 +2,16 @@
 use mathlib.Core.Path.{_≡_, refl, sym, ap, ap₂, _∙_, subst}
 use mathlib.Core.Logic.{⊎-elim}
 use mathlib.Core.Bool.{Bool, true, false, _&&_, cond, not}
-use mathlib.Core.List.{List, [], _∷_, _++_}
+use mathlib.Core.List.{List, [], _∷_, _++_, map}
 use Prim.Native.Nat.{ℕ, suc, _+_, _<_, _≤_}
 use native.Mathlib.Omega.{arith}
 use lib.Dec.{eqb, ltb, leb}
 use lib.ListN.{length, getD}
 use Rattle.std.specs.shelf.Lists.{All}
 use Rattle.std.proofs.shelf.Elements.{all-push, all-set, all-getD}
-use Rattle.std.proofs.shelf.Lists.{length-push, getD-push, length-set}
+use Rattle.std.proofs.shelf.Lists.{length-push, getD-push, length-set, length-map, getD-map}
 use Rattle.std.proofs.shelf.Tests.{eqb-true, eqb-false, and-parts, and-from, or-parts, and-cases, both-ways, cases-lt, ltb-false, leb-false, le-ltb, lt-ltb, le-leb, not-false, not-from-false, cond-both}
-use Rattle.sums.specs.Sums.{gate}
+use Rattle.sums.specs.Sums.{gate, count}
 use Rattle.register.specs.Keys.{place, found}
 use Rattle.denom.specs.Denomination.{Denom, Token, same-denom, same-token, hopless, behind, stripped}
 use Rattle.denom.specs.Text.{each, is-trace, is-symbol, is-denom}
@@ -25,7 +25,7 @@ use Rattle.protocol.proofs.Sums.{sum-part, sum-zero}
 use Rattle.protocol.proofs.Measures.{supply-measure, credit-moves, debit-moves, move-moves}
 use Rattle.protocol.proofs.Places.{place-first, same-denom-refl, same-token-refl}
 use Rattle.protocol.proofs.Homes.{back-in}
-use Rattle.protocol.proofs.Good.{Registers, Sound, Good, grown, grown-cases, grown-old}
+use Rattle.protocol.proofs.Good.{Key, no-key, key, Registers, Sound, Good, grown, grown-cases, grown-old}
 use Rattle.protocol.proofs.Grow.{Distinct, distinct-push}
 use Rattle.protocol.proofs.Views.{Clear, step-by, retire-facts, pay-facts, send-facts, receive-facts, ack-facts, timeout-facts}
 use Rattle.protocol.proofs.Moves.{homeward, outward, arrival-by, refund-by, sent-by}
@@ -166,11 +166,33 @@ token-fine w t r h = go (token-known w t) refl r
               ));
         }
 
--- Packets: each carries an amount within bounds
+-- Packets: each has a sequence from 1 and an amount from 1 to 2^64 - 1
 
--- an amount from 1 to 2^64 - 1
 abbrev Paid : Packet → Type 0
-Paid p = (1 ≤ p .amount) × (p .amount ≤ most)
+Paid p = (1 ≤ p .amount) × (p .amount ≤ most) × (1 ≤ p .sequence)
+
+-- no more rows pass than there are
+count-le : {X : Type 0} (test : X → Bool) (xs : List X) → count test xs ≤ length xs
+count-le test [] = omega arith
+count-le test (x ∷ xs) = go (test x) (count-le test xs)
+  where
+    go : (b : Bool) → count test xs ≤ length xs → gate b 1 + count test xs ≤ suc (length xs)
+    go true h = omega arith
+    go false h = omega arith
+
+-- a sequence is no more than the packets of its lane, and these no more than all
+sequence-in :
+    (w : World) (q : ℕ) → Good w → length (w .packets) ≤ packets-most → q < length (w .packets) →
+    getD (w .packets) q no-packet .sequence ≤ packets-most
+sequence-in w q g few l =
+    let n = length-map (w .packets) key in
+    let is = getD-map key (w .packets) q no-packet no-key l in
+    omega (
+      arith,
+      g .numbered .upto q (omega arith),
+      count-le (λ (k : Key). eqb (k .0) (getD (map key (w .packets)) q no-key .0)) (map key (w .packets)),
+      ap (λ (k : Key). k .1) is,
+    )
 
 -- What a world keeps beside what `Good` says of it
 
@@ -306,6 +328,7 @@ fine-outcome w (send c k u v e n t) g h r =
           all-push Paid (w .packets) (sent-packet w c k u v e n t) (h .paid) (
             (let ne = eqb-false n 0 (r .1 .1 .1 .0) in omega arith),
             omega (arith, f .enough, sum-part accounts (λ a. b c a d) u (omega (arith, f .u-in)), h .lawful .supplies c d),
+            omega arith,
           );
     }
 fine-outcome w (receive l d s) g h r =
@@ -404,5 +427,13 @@ bounded l bs past =
       packet-in = λ q l.
           let s = all-getD (Sound (w .links) (w .register)) (w .packets) q no-packet l (g .sound) in
           let p = all-getD Paid (w .packets) q no-packet l (f .paid) in
-          (s .lane-in, s .sender-in, s .receiver-in, p .0, p .1);
+          record {
+            lane-in = s .lane-in;
+            sequence-least = p .2;
+            sequence-most = sequence-in w q g (f .packets) l;
+            sender-in = s .sender-in;
+            receiver-in = s .receiver-in;
+            amount-least = p .0;
+            amount-most = p .1;
+          };
     }

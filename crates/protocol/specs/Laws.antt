@@ -295,6 +295,16 @@ ascending-from k ((n when b) ∷ rs) = ltb k n && ascending-from n rs
 abbrev pub Refusals-in-order : Type 0
 Refusals-in-order = (w : World) (c : Call) → ascending-from 0 (refusals w c) ≡ true
 
+-- A packet within the house's bounds.
+pub record Packet-in (w : World) (p : Packet) : Type 0 where
+  pub lane-in : p .lane < length (ends (w .links))
+  pub sequence-least : 1 ≤ p .sequence
+  pub sequence-most : p .sequence ≤ packets-most
+  pub sender-in : p .sender < users
+  pub receiver-in : p .receiver < users
+  pub amount-least : 1 ≤ p .amount
+  pub amount-most : p .amount ≤ most
+
 -- The house's bounds, the ledger's two laws, and registers without repeats.
 pub record Within (w : World) : Type 0 where
   pub lawful : Lawful (w .ledger)
@@ -316,11 +326,7 @@ pub record Within (w : World) : Type 0 where
   pub end-in :
       (i : ℕ) → i < length (ends (w .links)) →
       (from-end (w .links) i .chain < chains-most) × (from-end (w .links) i .channel < channels-most)
-  -- every packet: its lane, its users, its amount
-  pub packet-in :
-      (q : ℕ) → q < length (w .packets) →
-      let p = getD (w .packets) q no-packet in
-      (p .lane < length (ends (w .links))) × (p .sender < users) × (p .receiver < users) × (1 ≤ p .amount) × (p .amount ≤ most)
+  pub packet-in : (q : ℕ) → q < length (w .packets) → Packet-in w (getD (w .packets) q no-packet)
 
 abbrev pub Bounded : Type 0
 Bounded = (l : Ledger) (bs : Bool → Book) (past : List Call) → Within (world l bs past)
