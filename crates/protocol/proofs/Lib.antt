@@ -5,6 +5,7 @@ pub mod Places
 pub mod Homes
 pub mod Good
 pub mod Grow
+pub mod Marking
 pub mod Amounts
 pub mod Views
 pub mod Moves
