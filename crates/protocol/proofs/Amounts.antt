@@ -1,37 +1,40 @@
 -- What users hold of a token, and open packets: what each small change does to them.
 use mathlib.Core.Path.{_≡_, refl, sym, ap, ap₂, _∙_}
 use mathlib.Core.Logic.{_≢_}
-use mathlib.Core.Bool.{Bool, true, false, _&&_, cond, not}
+use mathlib.Core.Bool.{Bool, true, false, _&&_, not}
 use mathlib.Core.List.{List, _++_, map}
 use Prim.Native.Nat.{ℕ, _+_, _<_}
 use native.Mathlib.Omega.{arith}
 use lib.Dec.{eqb, ltb}
 use lib.ListN.{length, getD, set}
-use Rattle.std.specs.declared.option.Option.{Option}
-use Rattle.std.specs.declared.option.Option.the-variants.{Some, None}
+use Rattle.std.specs.declared.option.Option.the-variants.{None}
 use Rattle.std.proofs.shelf.Lists.{length-map, set-getD, getD-map}
-use Rattle.std.proofs.shelf.Tests.{eqb-true, eq-eqb, both-ways, lt-ltb, le-ltb}
+use Rattle.std.proofs.shelf.Tests.{lt-ltb, le-ltb}
 use Rattle.sums.specs.Sums.{total, gate, sum-below}
 use Rattle.denom.specs.Denomination.{Denom, Token, same-token}
 use Rattle.protocol.specs.House.{chains-most, users, escrow-account}
 use Rattle.protocol.specs.Ledger.{Balances, users-hold}
-use Rattle.protocol.specs.Book.{Book, taken, is-one}
-use Rattle.protocol.specs.World.{Link, Packet, World, home-of, no-denom, is-open, open-packets, link-kind}
-use Rattle.protocol.specs.Calls.{no-packet, no-more-standing, same-kind, recorded, ended, mark-written}
-use Rattle.protocol.proofs.Bools.{and-true, and-swap, same-kind-refl}
+use Rattle.protocol.specs.Book.{is-one}
+use Rattle.protocol.specs.World.{Link, Packet, World, home-of, no-denom, is-open, open-packets, link-kind, mark-at}
+use Rattle.protocol.specs.Calls.{no-packet, no-more-standing, recorded, ended, mark-written}
+use Rattle.protocol.proofs.Bools.{and-true, and-swap}
 use Rattle.protocol.proofs.Sums.{sum-same, sum-longer, sum-zero, total-push, total-at, gate-zero}
 use Rattle.protocol.proofs.Measures.{Weight, Measure, one-balance, reweigh, gated, summed}
 use Rattle.protocol.proofs.Homes.{Leads, home-grows}
 use Rattle.protocol.proofs.Good.{Registers, Blank, Names, Traced, Key, no-key, key, Numbered, grown, grown-length, grown-old}
+use Rattle.protocol.proofs.Marking.{mark-other, mark-here}
 
 -- What users hold, by its parts
 
+-- number d of chain c is a denomination of the token
 abbrev pub is-of : List Link → Registers → Token → ℕ → ℕ → Bool
 is-of ls reg t c d = same-token (home-of ls c (getD (reg c) d no-denom)) t
 
+-- what users hold of a token, by the parts of a world that it reads
 abbrev pub Held : List Link → Registers → Balances → Token → ℕ
 Held ls reg b t = sum-below chains-most (λ c. sum-below (length (reg c)) (λ d. gate (is-of ls reg t c d) (users-hold b c d)))
 
+-- which balances count towards it
 abbrev pub held-weight : List Link → Registers → Token → Weight
 held-weight ls reg t c a d = ltb c chains-most && (ltb d (length (reg c)) && (is-of ls reg t c d && ltb a users))
 
@@ -47,12 +50,14 @@ and-last false q r true = refl
 and-last false q r false = refl
 
 module _ (ls : List Link) (reg : Registers) (t : Token) where
+  -- the balances of a chain's users under one number
   users-measure : (c₀ d₀ : ℕ) → Measure (λ b. sum-below users (λ u. b c₀ u d₀)) (λ c a d. ltb a users && (eqb c₀ c && eqb d₀ d))
   users-measure c₀ d₀ =
       summed users (λ k b. b c₀ k d₀) (λ c a d. a) (λ _ c a d. eqb c₀ c && eqb d₀ d) (λ k.
       reweigh (λ b. b c₀ k d₀) (λ c a d. eqb c₀ c && eqb k a && eqb d₀ d) (λ c a d. eqb k a && (eqb c₀ c && eqb d₀ d))
       (λ c a d. and-swap (eqb c₀ c) (eqb k a) (eqb d₀ d)) (one-balance c₀ k d₀))
 
+  -- the same, counted only if the number is of the token
   denom-measure :
       (c₀ d₀ : ℕ) →
       Measure
@@ -65,6 +70,7 @@ module _ (ls : List Link) (reg : Registers) (t : Token) where
       (λ c a d. and-last (is-of ls reg t c₀ d₀) (ltb a users) (eqb c₀ c) (eqb d₀ d))
       (gated (is-of ls reg t c₀ d₀) (λ b. sum-below users (λ u. b c₀ u d₀)) (λ c a d. ltb a users && (eqb c₀ c && eqb d₀ d)) (users-measure c₀ d₀))
 
+  -- all numbers of one chain
   chain-measure :
       (c₀ : ℕ) →
       Measure
@@ -78,6 +84,7 @@ module _ (ls : List Link) (reg : Registers) (t : Token) where
       (summed (length (reg c₀)) (λ d b. gate (is-of ls reg t c₀ d) (users-hold b c₀ d)) (λ c a d. d)
       (λ d₀ c a d. is-of ls reg t c₀ d₀ && (ltb a users && eqb c₀ c)) (denom-measure c₀))
 
+  -- all chains: a user's balance counts wherever its denomination is of the token
   pub held-measure : Measure (λ b. Held ls reg b t) (held-weight ls reg t)
   held-measure =
       summed chains-most (λ c b. sum-below (length (reg c)) (λ d. gate (is-of ls reg t c d) (users-hold b c d))) (λ c a d. c)
@@ -89,6 +96,7 @@ module _ (ls : List Link) (reg : Registers) (t : Token) where
   weight-user c u d e s n l =
       rw (lt-ltb c chains-most s) (rw (lt-ltb d (length (reg c)) (n .0)) (rw (lt-ltb u users l) (rw (n .1) (and-true (same-token (home-of ls c e) t)))))
 
+  -- an escrow account's never does
   pub weight-escrow : (c k d : ℕ) → held-weight ls reg t c (escrow-account k) d ≡ false
   weight-escrow c k d =
       rw (le-ltb (escrow-account k) users (omega arith)) (go (ltb c chains-most) (ltb d (length (reg c))) (is-of ls reg t c d))
@@ -120,6 +128,7 @@ pub home-stays :
     (ls ms : List Link) (c : ℕ) (e : Denom) → Leads ls (e .hops) c → home-of (ls ++ ms) c e ≡ home-of ls c e
 home-stays ls ms c e h = let p = home-grows ls ms (e .hops) c h in λ i. record { chain = p i; symbol = e .symbol }
 
+-- the homes of what is registered stay, so what is held does
 pub held-links :
     (ls ms : List Link) (reg : Registers) (b : Balances) (t : Token) → Traced ls reg → Held (ls ++ ms) reg b t ≡ Held ls reg b t
 held-links ls ms reg b t h =
@@ -159,62 +168,19 @@ open-ended w q test l =
 module _ (w : World) (q i s m : ℕ) (test : Packet → Bool) (l : q < length (w .packets))
     (is : key (getD (w .packets) q no-packet) ≡ (i, s)) (st : getD (w .packets) q no-packet .standing ≡ true)
     (none : w .books (link-kind w i) .mark i s ≡ None) (distinct : Numbered (map key (w .packets)) (w .books)) where
-  p₀ : Packet
-  p₀ = getD (w .packets) q no-packet
-
-  lane-is : getD (w .packets) q no-packet .lane ≡ i
-  lane-is = ap (λ (x : Key). x .0) is
-
-  seq-is : getD (w .packets) q no-packet .sequence ≡ s
-  seq-is = ap (λ (x : Key). x .1) is
-
+  -- a packet under another key is open as it was
   other : (p : Packet) → (key p ≡ (i, s) → ⊥) → is-open (mark-written w i s m) p ≡ is-open w p
-  other p ne =
-      go (same-kind (link-kind w (p .lane)) (link-kind w i)) (eqb (p .lane) i) (eqb (p .sequence) s)
-      (eqb-true (p .lane) i) (eqb-true (p .sequence) s)
-    where
-      bk : Book
-      bk = w .books (link-kind w (p .lane))
+  other p ne = ap (λ o. p .standing && not (is-one o)) (mark-other w i s m p ne)
 
-      old : Option ℕ
-      old = w .books (link-kind w (p .lane)) .mark (p .lane) (p .sequence)
-
-      go :
-          (a b c : Bool) → (b ≡ true → p .lane ≡ i) → (c ≡ true → p .sequence ≡ s) →
-          (p .standing && not (is-one ((cond a (taken (w .books (link-kind w (p .lane))) i s m) (w .books (link-kind w (p .lane)))) .mark (p .lane) (p .sequence)))) ≡
-          is-open w p
-      go false b c f g = refl
-      go true b c f g = inner (eqb (p .lane) i) (eqb (p .sequence) s) (eqb-true (p .lane) i) (eqb-true (p .sequence) s)
-        where
-          inner :
-              (b c : Bool) → (b ≡ true → p .lane ≡ i) → (c ≡ true → p .sequence ≡ s) →
-              (p .standing && not (is-one (cond (b && c) (Some m) (w .books (link-kind w (p .lane)) .mark (p .lane) (p .sequence))))) ≡
-              is-open w p
-          inner true true f g = absurd (ne (λ k. (f refl k, g refl k)))
-          inner true false f g = refl
-          inner false c f g = refl
-
-  written : mark-written w i s m .books (link-kind w i) .mark i s ≡ Some m
-  written = go (same-kind (link-kind w i) (link-kind w i)) (eqb i i) (eqb s s) (same-kind-refl (link-kind w i)) (eq-eqb i i refl) (eq-eqb s s refl)
-    where
-      go :
-          (a b c : Bool) → a ≡ true → b ≡ true → c ≡ true →
-          (cond a (record { strict = w .books (link-kind w i) .strict; mark = λ i′ s′. cond (eqb i′ i && eqb s′ s) (Some m) (w .books (link-kind w i) .mark i′ s′) }) (w .books (link-kind w i))) .mark i s ≡ Some m
-      go true b c e f g = ap₂ (λ x y. cond (x && y) (Some m) (w .books (link-kind w i) .mark i s)) (eq-eqb i i refl) (eq-eqb s s refl)
-      go false b c e f g = absurd (both-ways false refl e)
-
+  -- the packet is open now unless that mark is 1
   here : is-open (mark-written w i s m) (getD (w .packets) q no-packet) ≡ not (eqb m 1)
-  here =
-      ap (λ b. b && not (is-one (mark-written w i s m .books (link-kind w (getD (w .packets) q no-packet .lane)) .mark (getD (w .packets) q no-packet .lane) (getD (w .packets) q no-packet .sequence)))) st ∙
-      ap₂ (λ i′ s′. not (is-one (mark-written w i s m .books (link-kind w i′) .mark i′ s′))) lane-is seq-is ∙
-      ap (λ o. not (is-one o)) written
+  here = ap₂ (λ x o. x && not (is-one o)) st (mark-here w i s m (getD (w .packets) q no-packet) is)
 
+  -- it was open before
   was : is-open w (getD (w .packets) q no-packet) ≡ true
-  was =
-      ap (λ b. b && not (is-one (w .books (link-kind w (getD (w .packets) q no-packet .lane)) .mark (getD (w .packets) q no-packet .lane) (getD (w .packets) q no-packet .sequence)))) st ∙
-      ap₂ (λ i′ s′. not (is-one (w .books (link-kind w i′) .mark i′ s′))) lane-is seq-is ∙
-      ap (λ o. not (is-one o)) none
+  was = ap₂ (λ x o. x && not (is-one o)) st (ap (λ (k : Key). mark-at w (k .0) (k .1)) is ∙ none)
 
+  -- the open packets lose it where the mark is 1, and keep it otherwise
   pub open-mark :
       open-packets (mark-written w i s m) test + gate (test (getD (w .packets) q no-packet)) (getD (w .packets) q no-packet .amount) ≡
       open-packets w test +

@@ -17,7 +17,7 @@ use Rattle.denom.specs.Denomination.{Denom, hopless, behind, stripped, came-by,
 use Rattle.protocol.specs.House.{channels-most, escrow-account}
 use Rattle.protocol.specs.Ledger.{Ledger, supply, debited, moved}
 use Rattle.protocol.specs.Book.{Book, is-one}
-use Rattle.protocol.specs.World.{End, Link, Packet, World, ends, back, from-end, to-end, end-at, lane-out, lowest-unused, number, no-end, mark-of, is-open, same-end, escrow, supply-of, open-packets, on-lane-with, lane, no-link, mark-at}
+use Rattle.protocol.specs.World.{End, Link, Packet, World, ends, back, from-end, to-end, end-at, lane-out, lowest-unused, number, no-end, mark-of, is-open, same-end, escrow, supply-of, open-packets, on-lane-with, lane, no-link, mark-at, near, far}
 use Rattle.protocol.specs.Calls.{Call, open-link, issue, retire, pay, send, receive, ack, timeout, tick, bar, unbar, home, refusals, outcome, with-bal, with-links, recorded, ended, mark-written, no-packet, packet-place, packet-at, arrival-mark, refunded, refund-refused, sent-packet, next-sequence}
 use Rattle.protocol.specs.Laws.{world, Backed}
 use Rattle.protocol.proofs.Bools.{and-false}
@@ -28,7 +28,7 @@ use Rattle.protocol.proofs.Good.{Sound, Good, grown, grown-number, names-found
 use Rattle.protocol.proofs.Grow.{on-lane-keys}
 use Rattle.protocol.proofs.Amounts.{open-push, open-ended, open-mark}
 use Rattle.protocol.proofs.Views.{Clear, step-by, issue-facts, retire-facts, pay-facts, send-facts, Stands, marked-at, receive-facts, ack-facts, timeout-facts}
-use Rattle.protocol.proofs.Moves.{near, far, arrival-by, refund-by, sent-by}
+use Rattle.protocol.proofs.Moves.{arrival-by, refund-by, sent-by}
 use Rattle.protocol.proofs.Kept.{good-outcome, sound-at, good-world}
 use Rattle.protocol.proofs.Lanes.{out-never, home-never, burn-is, lock-is, mint-is, free-is}
 use Rattle.protocol.proofs.Escrow.{Placed, esc-user, esc-credit, esc-debit, esc-move, sup-credit, sup-debit, sup-move, esc-grown, sup-grown, placed-grown}
@@ -42,6 +42,7 @@ abbrev pub All-backed : World → Type 0
 All-backed w =
     (i : ℕ) (e : Denom) → i < length (ends (w .links)) → came-by (from-end (w .links) i .channel) e ≡ false → Backs w i e
 
+-- a total of nothings
 total-zero : {X : Type 0} (f : X → ℕ) (xs : List X) (d : X) → ((j : ℕ) → j < length xs → f (getD xs j d) ≡ 0) → total f xs ≡ 0
 total-zero f [] d h = refl
 total-zero f (x ∷ xs) d h = omega (arith, h 0 (omega arith), total-zero f xs d (λ j l. h (suc j) (omega arith)))
@@ -49,6 +50,7 @@ total-zero f (x ∷ xs) d h = omega (arith, h 0 (omega arith), total-zero f xs d
 -- At one end and one denomination, where the law holds before
 module _ (w : World) (g : Good w) (i₀ : ℕ) (e₀ : Denom) (in₀ : i₀ < length (ends (w .links)))
     (not-back : came-by (from-end (w .links) i₀ .channel) e₀ ≡ false) (law : Backs w i₀ e₀) where
+  -- the near chain, its channel, the far chain and the voucher of the law
   abbrev C : ℕ
   C = from-end (w .links) i₀ .chain
 
@@ -61,12 +63,14 @@ module _ (w : World) (g : Good w) (i₀ : ℕ) (e₀ : Denom) (in₀ : i₀ < le
   abbrev V : Denom
   V = behind (to-end (w .links) i₀ .channel) e₀
 
+  -- the packets of the law, outward and homeward
   abbrev out : Packet → Bool
   out = on-lane-with i₀ e₀
 
   abbrev hom : Packet → Bool
   hom = on-lane-with (back i₀) V
 
+  -- a registered denomination has its place for a number
   placed : (c : ℕ) (f : Denom) → number w c f < length (w .register c) → Placed (w .register) c (number w c f) f
   placed c f l = record { is = refl; in′ = l }
 
@@ -96,6 +100,7 @@ module _ (w : World) (g : Good w) (i₀ : ℕ) (e₀ : Denom) (in₀ : i₀ < le
       ap (λ x. gate x n) (lock-is (w .links) (g .wired .apart) i₀ in₀ e₀ not-back i in′ f),
     )
 
+  -- a packet that leaves
   backs-send :
       (c k u v : ℕ) (e : Denom) (n T : ℕ) → Clear (refusals w (send c k u v e n T)) →
       Backs (outcome w (send c k u v e n T) .0) i₀ e₀
@@ -243,6 +248,7 @@ module _ (w : World) (g : Good w) (i₀ : ℕ) (e₀ : Denom) (in₀ : i₀ < le
         sup-move (w .register) c d (p .denom) pl C′ V b n (escrow-account (near w p .channel)) (p .sender) (omega arith) (omega (arith, so .sender-in)) enough,
       ))
 
+  -- an issue: a hopless denomination is no voucher, and a user's account no escrow
   backs-issue : (c u : ℕ) (s : List ℕ) (n : ℕ) → Clear (refusals w (issue c u s n)) → Backs (outcome w (issue c u s n) .0) i₀ e₀
   backs-issue c u s n h =
       let f = issue-facts w c u s n h in
@@ -260,6 +266,7 @@ module _ (w : World) (g : Good w) (i₀ : ℕ) (e₀ : Denom) (in₀ : i₀ < le
         sup-grown (w .register) b c e (g .blank) C′ V,
       )
 
+  -- a retirement, likewise
   backs-retire : (c u : ℕ) (e : Denom) (n : ℕ) → Clear (refusals w (retire c u e n)) → Backs (outcome w (retire c u e n) .0) i₀ e₀
   backs-retire c u e n h =
       let f = retire-facts w c u e n h .0 in
@@ -275,6 +282,7 @@ module _ (w : World) (g : Good w) (i₀ : ℕ) (e₀ : Denom) (in₀ : i₀ < le
         sup-debit (w .register) c (number w c e) e pl C′ V b n u (f .u-in) (f .enough),
       )
 
+  -- a payment between users
   backs-pay : (c u v : ℕ) (e : Denom) (n : ℕ) → Clear (refusals w (pay c u v e n)) → Backs (outcome w (pay c u v e n) .0) i₀ e₀
   backs-pay c u v e n h =
       let f = pay-facts w c u v e n h in
@@ -289,6 +297,7 @@ module _ (w : World) (g : Good w) (i₀ : ℕ) (e₀ : Denom) (in₀ : i₀ < le
         sup-move (w .register) c (number w c e) e pl C′ V b n u v (omega (arith, f .0 .u-in)) (omega (arith, f .1)) (f .0 .enough),
       )
 
+  -- an ack: the packet was not open, or is refunded
   backs-ack : (l d s : ℕ) → Clear (refusals w (ack l d s)) → Backs (outcome w (ack l d s) .0) i₀ e₀
   backs-ack l d s h =
       go (is-one (mark-at w (lane l d) s)) (ap is-one (marked-at w (lane l d) s (ack-facts w l d s h .0))) (ack-facts w l d s h .2)
@@ -306,6 +315,7 @@ module _ (w : World) (g : Good w) (i₀ : ℕ) (e₀ : Denom) (in₀ : i₀ < le
           omega (arith, law, open-ended w q out (st .place-in), open-ended w q hom (st .place-in))
       go false e r = backs-refund (lane l d) s (ack-facts w l d s h .0) e r
 
+  -- a timeout refunds
   backs-timeout : (l d s : ℕ) → Clear (refusals w (timeout l d s)) → Backs (outcome w (timeout l d s) .0) i₀ e₀
   backs-timeout l d s h =
       let f = timeout-facts w l d s h in
@@ -316,15 +326,19 @@ module _ (w : World) (g : Good w) (i₀ : ℕ) (e₀ : Denom) (in₀ : i₀ < le
 
 -- A link opened: at the ends that were there nothing changes, and at the new ones there is nothing yet.
 module _ (w : World) (g : Good w) (a b : ℕ) (k : Bool) (clear : Clear (refusals w (open-link a b k))) (bk : All-backed w) where
+  -- the link that is opened
   abbrev ms : List Link
   ms = record { end₀ = end-at a (lowest-unused (w .links) a); end₁ = end-at b (lowest-unused (w .links) b); kind = k } ∷ []
 
+  -- the world with it
   abbrev w′ : World
   w′ = with-links w (w .links ++ ms)
 
+  -- what is known of a packet that was sent
   sound-of : (j : ℕ) → j < length (w .packets) → Sound (w .links) (w .register) (getD (w .packets) j no-packet)
   sound-of j l = all-getD (Sound (w .links) (w .register)) (w .packets) j no-packet l (g .sound)
 
+  -- the same packets are open
   open-stays : (test : Packet → Bool) → open-packets w′ test ≡ open-packets w test
   open-stays test =
       total-same (λ p. gate (is-open w′ p && test p) (p .amount)) (λ p. gate (is-open w p && test p) (p .amount)) (w .packets) no-packet
@@ -351,6 +365,7 @@ module _ (w : World) (g : Good w) (a b : ℕ) (k : Bool) (clear : Clear (refusal
       (λ ge. ge)
       (cases-lt x (length (ends (w .links))))
 
+  -- no packet is on a lane that was not there
   nothing-on : (i : ℕ) (e : Denom) → length (ends (w .links)) ≤ i → open-packets w (on-lane-with i e) ≡ 0
   nothing-on i e l =
       total-zero (λ p. gate (is-open w p && on-lane-with i e p) (p .amount)) (w .packets) no-packet (λ j m.
@@ -358,6 +373,7 @@ module _ (w : World) (g : Good w) (a b : ℕ) (k : Bool) (clear : Clear (refusal
       let ne : eqb (p .lane) i ≡ false = ne-eqb (p .lane) i (λ x. omega (arith, sound-of j m .lane-in)) in
       ap (λ y. gate (is-open w p && (y && same-denom (p .denom) e)) (p .amount)) ne ∙ ap (λ y. gate y (p .amount)) (and-false (is-open w p)))
 
+  -- the law at the ends that were there and at the new ones
   backs-open : All-backed w′
   backs-open i e l h = ⊎-elim old new (cases-lt i (length (ends (w .links))))
     where
@@ -406,10 +422,12 @@ module _ (w : World) (g : Good w) (a b : ℕ) (k : Bool) (clear : Clear (refusal
           ap (λ z. gate z (supply (w .ledger .balance) (y .chain) (number w (y .chain) v))) (le-ltb (number w (y .chain) v) (length (w .register (y .chain))) unknown) in
           same (omega (arith, empty, none, nothing-on i e m, nothing-on (back i) v new-back))
 
+-- a receive opens no link
 receive-links : (w : World) (l d s : ℕ) → outcome w (receive l d s) .0 .links ≡ w .links
 receive-links w l d s =
     arrival-by w (packet-at w (lane l d) s) (λ x. x .links ≡ w .links) (λ _. refl) (λ _ _. refl) (λ _ _. refl)
 
+-- nor does an ack
 ack-links : (w : World) (l d s : ℕ) → outcome w (ack l d s) .0 .links ≡ w .links
 ack-links w l d s = go (is-one (mark-at w (lane l d) s))
   where
@@ -425,6 +443,7 @@ same-links :
 same-links w v q f i e l nb =
     f i e (subst (λ (ls : List Link). i < length (ends ls)) q l) (subst (λ (ls : List Link). came-by (from-end ls i .channel) e ≡ false) q nb)
 
+-- every call keeps the law
 pub backs-outcome : (w : World) (c : Call) → Good w → All-backed w → Clear (refusals w c) → All-backed (outcome w c .0)
 backs-outcome w (open-link a b k) g bk h = backs-open w g a b k h bk
 backs-outcome w (issue c u s n) g bk h = λ i e l nb. backs-issue w g i e l nb (bk i e l nb) c u s n h
@@ -441,6 +460,7 @@ backs-outcome w (bar c u) g bk h = bk
 backs-outcome w (unbar c u) g bk h = bk
 backs-outcome w (home c e) g bk h = bk
 
+-- at every moment
 pub backed-world : (l : Ledger) (bs : Bool → Book) (past : List Call) → All-backed (world l bs past)
 backed-world l bs [] = λ i e h nb. absurd (omega arith)
 backed-world l bs (c ∷ past) =

@@ -1,41 +1,43 @@
 -- The house's bounds, the ledger's two laws and registers without repeats hold at every moment.
 use mathlib.Core.Path.{_≡_, refl, sym, ap, ap₂, _∙_, subst}
-use mathlib.Core.Logic.{_⊎_, ⊎-elim}
-use mathlib.Core.Bool.{Bool, true, false, _&&_, _||_, cond, not}
-use mathlib.Core.List.{List, [], _∷_, _++_}
-use Prim.Native.Nat.{ℕ, zero, suc, _+_, _<_, _≤_}
+use mathlib.Core.Logic.{⊎-elim}
+use mathlib.Core.Bool.{Bool, true, false, _&&_, cond, not}
+use mathlib.Core.List.{List, [], _∷_, _++_, map}
+use Prim.Native.Nat.{ℕ, suc, _+_, _<_, _≤_}
 use native.Mathlib.Omega.{arith}
 use lib.Dec.{eqb, ltb, leb}
-use lib.ListN.{length, getD, set}
+use lib.ListN.{length, getD}
 use Rattle.std.specs.shelf.Lists.{All}
 use Rattle.std.proofs.shelf.Elements.{all-push, all-set, all-getD}
-use Rattle.std.proofs.shelf.Lists.{length-push, getD-push, length-set}
+use Rattle.std.proofs.shelf.Lists.{length-push, getD-push, length-set, length-map, getD-map}
 use Rattle.std.proofs.shelf.Tests.{eqb-true, eqb-false, and-parts, and-from, or-parts, and-cases, both-ways, cases-lt, ltb-false, leb-false, le-ltb, lt-ltb, le-leb, not-false, not-from-false, cond-both}
-use Rattle.sums.specs.Sums.{gate}
+use Rattle.sums.specs.Sums.{gate, count}
 use Rattle.register.specs.Keys.{place, found}
 use Rattle.denom.specs.Denomination.{Denom, Token, same-denom, same-token, hopless, behind, stripped}
 use Rattle.denom.specs.Text.{each, is-trace, is-symbol, is-denom}
-use Rattle.protocol.specs.House.{most, links-most, packets-most, tokens-most, denoms-most, channels-most, hops-most, users, accounts, escrow-account}
+use Rattle.protocol.specs.House.{most, links-most, packets-most, tokens-most, denoms-most, channels-most, hops-most, accounts, escrow-account}
 use Rattle.protocol.specs.Ledger.{Ledger, Balances, supply, Lawful, credited, debited, moved, too-large, with-balances, bar-set}
 use Rattle.protocol.specs.Book.{Book, is-one}
-use Rattle.protocol.specs.World.{Packet, World, made, lane, no-denom, number, registered, mark-at, end-at, lowest-unused, back}
+use Rattle.protocol.specs.World.{Packet, World, made, lane, no-denom, number, registered, mark-at, end-at, lowest-unused, back, near, far}
 use Rattle.protocol.specs.Calls.{Call, open-link, issue, retire, pay, send, receive, ack, timeout, tick, bar, unbar, home, refusals, outcome, token-known, token-at, token-enrolled, packet-place, packet-at, no-packet, no-more-standing, arrival-mark, refunded, refund-refused, sent-packet, with-bal, with-ledger, ended, mark-written}
-use Rattle.protocol.specs.Laws.{world, Within, Bounded}
+use Rattle.protocol.specs.Laws.{world, Bounded}
 use Rattle.protocol.proofs.Sums.{sum-part, sum-zero}
 use Rattle.protocol.proofs.Measures.{supply-measure, credit-moves, debit-moves, move-moves}
 use Rattle.protocol.proofs.Places.{place-first, same-denom-refl, same-token-refl}
 use Rattle.protocol.proofs.Homes.{back-in}
-use Rattle.protocol.proofs.Good.{Registers, Sound, Good, grown, grown-cases, grown-old}
+use Rattle.protocol.proofs.Good.{Key, no-key, key, Registers, Sound, Good, grown, grown-cases, grown-old}
 use Rattle.protocol.proofs.Grow.{Distinct, distinct-push}
 use Rattle.protocol.proofs.Views.{Clear, step-by, retire-facts, pay-facts, send-facts, receive-facts, ack-facts, timeout-facts}
-use Rattle.protocol.proofs.Moves.{near, far, homeward, outward, arrival-by, refund-by, sent-by}
+use Rattle.protocol.proofs.Moves.{homeward, outward, arrival-by, refund-by, sent-by}
 use Rattle.protocol.proofs.Kept.{sound-at, good-world}
 
 -- Supplies
 
+-- no supply passes 2^64 - 1
 abbrev Supplies : Balances → Type 0
 Supplies b = (c d : ℕ) → supply b c d ≤ most
 
+-- a credit that is not too large
 supplies-credit :
     (b : Balances) (c u d n : ℕ) → too-large b c d n ≡ false → Supplies b → Supplies (credited b c u d n)
 supplies-credit b c u d n h s c′ d′ =
@@ -50,6 +52,7 @@ supplies-credit b c u d n h s c′ d′ =
     go true false z f g e = omega (arith, s c′ d′)
     go false y z f g e = omega (arith, s c′ d′)
 
+-- a debit of what is there
 supplies-debit : (b : Balances) (c u d n : ℕ) → n ≤ b c u d → Supplies b → Supplies (debited b c u d n)
 supplies-debit b c u d n h s c′ d′ =
     omega (
@@ -58,11 +61,13 @@ supplies-debit b c u d n h s c′ d′ =
       s c′ d′,
     )
 
+-- what counts under two tests counts under one
 gate-under : (x y : Bool) (n : ℕ) → gate (x && y) n ≤ gate (true && y) n
 gate-under true y n = omega arith
 gate-under false true n = omega arith
 gate-under false false n = omega arith
 
+-- a move of what is there
 supplies-move :
     (b : Balances) (c a a′ d n : ℕ) → a < accounts → n ≤ b c a d → Supplies b → Supplies (moved b c a a′ d n)
 supplies-move b c a a′ d n l h s c′ d′ =
@@ -76,11 +81,13 @@ supplies-move b c a a′ d n l h s c′ d′ =
 
 -- Registers
 
+-- registers within their counts, without repeats, with proper denominations
 record Registers-fine (reg : Registers) : Type 0 where
   few : (c : ℕ) → length (reg c) ≤ denoms-most
   apart : (c : ℕ) → Distinct no-denom (reg c)
   proper : (c d : ℕ) → d < length (reg c) → is-denom (getD (reg c) d no-denom) ≡ true
 
+-- a proper denomination enrolled where there is room
 fine-grown :
     (reg : Registers) (c : ℕ) (e : Denom) → (not (found (same-denom e) (reg c)) && leb denoms-most (length (reg c))) ≡ false →
     is-denom e ≡ true → Registers-fine reg → Registers-fine (grown reg c e)
@@ -131,10 +138,12 @@ behind-proper j e j-in short h =
 
 -- Tokens
 
+-- the same of tokens
 record Tokens-fine (ts : List Token) : Type 0 where
   few : length ts ≤ tokens-most
   apart : Distinct (token-at 0 []) ts
 
+-- a token enrolled where there is room
 token-fine :
     (w : World) (t : Token) → (not (token-known w t) && leb tokens-most (length (w .tokens))) ≡ false → Tokens-fine (w .tokens) →
     Tokens-fine (token-enrolled w t .tokens)
@@ -157,10 +166,33 @@ token-fine w t r h = go (token-known w t) refl r
               ));
         }
 
--- Packets: each carries an amount within bounds
+-- Packets: each has a sequence from 1 and an amount from 1 to 2^64 - 1
 
 abbrev Paid : Packet → Type 0
-Paid p = (1 ≤ p .amount) × (p .amount ≤ most)
+Paid p = (1 ≤ p .amount) × (p .amount ≤ most) × (1 ≤ p .sequence)
+
+-- no more rows pass than there are
+count-le : {X : Type 0} (test : X → Bool) (xs : List X) → count test xs ≤ length xs
+count-le test [] = omega arith
+count-le test (x ∷ xs) = go (test x) (count-le test xs)
+  where
+    go : (b : Bool) → count test xs ≤ length xs → gate b 1 + count test xs ≤ suc (length xs)
+    go true h = omega arith
+    go false h = omega arith
+
+-- a sequence is no more than the packets of its lane, and these no more than all
+sequence-in :
+    (w : World) (q : ℕ) → Good w → length (w .packets) ≤ packets-most → q < length (w .packets) →
+    getD (w .packets) q no-packet .sequence ≤ packets-most
+sequence-in w q g few l =
+    let n = length-map (w .packets) key in
+    let is = getD-map key (w .packets) q no-packet no-key l in
+    omega (
+      arith,
+      g .numbered .upto q (omega arith),
+      count-le (λ (k : Key). eqb (k .0) (getD (map key (w .packets)) q no-key .0)) (map key (w .packets)),
+      ap (λ (k : Key). k .1) is,
+    )
 
 -- What a world keeps beside what `Good` says of it
 
@@ -173,13 +205,16 @@ record Fine (w : World) : Type 0 where
   heights : (c : ℕ) → w .height c ≤ most
   paid : All Paid (w .packets)
 
+-- other balances under the same bars
 lawful-bal : (w : World) → Fine w → (b : Balances) → Supplies b → Lawful (with-balances (w .ledger) b)
 lawful-bal w h b s = record { supplies = s; bars = h .lawful .bars }
 
+-- balances change
 fine-bal : (w : World) → Fine w → (b : Balances) → Supplies b → Fine (with-bal w b)
 fine-bal w h b s =
     record { lawful = lawful-bal w h b s; links = h .links; packets = h .packets; tokens = h .tokens; registers = h .registers; heights = h .heights; paid = h .paid }
 
+-- a refund
 fine-refunded :
     (w : World) (p : Packet) → Good w → Fine w → Sound (w .links) (w .register) p → refund-refused w p ≡ false → Fine (refunded w p)
 fine-refunded w p g h s r =
@@ -193,6 +228,7 @@ fine-refunded w p g h s r =
     fine-bal w h (moved b c (escrow-account k) (p .sender) d (p .amount))
     (supplies-move b c (escrow-account k) (p .sender) d (p .amount) (omega (arith, g .wired .narrow (p .lane) (s .lane-in))) enough (h .lawful .supplies)))
 
+-- a packet ends
 fine-ended : (w : World) (q : ℕ) → q < length (w .packets) → Fine w → Fine (ended w q)
 fine-ended w q l h =
     record {
@@ -205,10 +241,12 @@ fine-ended w q l h =
       paid = all-set Paid (w .packets) q (no-more-standing (getD (w .packets) q no-packet)) (all-getD Paid (w .packets) q no-packet l (h .paid)) (h .paid);
     }
 
+-- a mark is written
 fine-mark : (w : World) (i s m : ℕ) → Fine w → Fine (mark-written w i s m)
 fine-mark w i s m h =
     record { lawful = h .lawful; links = h .links; packets = h .packets; tokens = h .tokens; registers = h .registers; heights = h .heights; paid = h .paid }
 
+-- a user is barred or not, on a chain that serves bars
 fine-barred : (w : World) (c u : ℕ) (b : Bool) → not (w .ledger .serves-bars c) ≡ false → Fine w → Fine (with-ledger w (bar-set (w .ledger) c u b))
 fine-barred w c u b r h =
     record {
@@ -235,6 +273,7 @@ denom-proper w p h s =
     let c = near w p .chain in
     subst (λ (e : Denom). is-denom e ≡ true) (s .named .1) (h .registers .proper c (place (same-denom (p .denom)) (w .register c)) (s .named .0))
 
+-- every call
 fine-outcome : (w : World) (c : Call) → Good w → Fine w → Clear (refusals w c) → Fine (outcome w c .0)
 fine-outcome w (open-link a b k) g h r =
     record {
@@ -289,6 +328,7 @@ fine-outcome w (send c k u v e n t) g h r =
           all-push Paid (w .packets) (sent-packet w c k u v e n t) (h .paid) (
             (let ne = eqb-false n 0 (r .1 .1 .1 .0) in omega arith),
             omega (arith, f .enough, sum-part accounts (λ a. b c a d) u (omega (arith, f .u-in)), h .lawful .supplies c d),
+            omega arith,
           );
     }
 fine-outcome w (receive l d s) g h r =
@@ -347,6 +387,7 @@ fine-outcome w (bar c u) g h r = fine-barred w c u true (r .1 .1 .0) h
 fine-outcome w (unbar c u) g h r = fine-barred w c u false (r .1 .1 .0) h
 fine-outcome w (home c e) g h r = h
 
+-- a world as it is made
 fine-made : (l : Ledger) (bs : Bool → Book) → Fine (made l bs)
 fine-made l bs =
     record {
@@ -359,12 +400,14 @@ fine-made l bs =
       paid = tt;
     }
 
+-- at every moment
 fine-world : (l : Ledger) (bs : Bool → Book) (past : List Call) → Fine (world l bs past)
 fine-world l bs [] = fine-made l bs
 fine-world l bs (c ∷ past) =
     step-by (world l bs past) c (λ r. Fine (r .0)) (λ _. fine-world l bs past)
     (fine-outcome (world l bs past) c (good-world l bs past) (fine-world l bs past))
 
+-- what is fine and good of a world is within bounds
 pub bounded : Bounded
 bounded l bs past =
     let w = world l bs past in
@@ -384,5 +427,13 @@ bounded l bs past =
       packet-in = λ q l.
           let s = all-getD (Sound (w .links) (w .register)) (w .packets) q no-packet l (g .sound) in
           let p = all-getD Paid (w .packets) q no-packet l (f .paid) in
-          (s .lane-in, s .sender-in, s .receiver-in, p .0, p .1);
+          record {
+            lane-in = s .lane-in;
+            sequence-least = p .2;
+            sequence-most = sequence-in w q g (f .packets) l;
+            sender-in = s .sender-in;
+            receiver-in = s .receiver-in;
+            amount-least = p .0;
+            amount-most = p .1;
+          };
     }

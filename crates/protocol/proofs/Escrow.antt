@@ -24,9 +24,11 @@ use Rattle.protocol.proofs.Good.{Registers, Blank, names-found, grown, grown-c
 abbrev pub named : Registers → ℕ → Denom → (ℕ → ℕ) → ℕ
 named reg c e m = gate (found (same-denom e) (reg c)) (m (place (same-denom e) (reg c)))
 
+-- the escrow of channel k of chain c in e
 abbrev pub Esc : Registers → Balances → ℕ → ℕ → Denom → ℕ
 Esc reg b c k e = named reg c e (λ d. b c (escrow-account k) d)
 
+-- the supply of e on c
 abbrev pub Sup : Registers → Balances → ℕ → Denom → ℕ
 Sup reg b c e = named reg c e (λ d. supply b c d)
 
@@ -48,6 +50,7 @@ module _ (reg : Registers) (c d : ℕ) (f : Denom) (at : Placed reg c d f) where
       let s : e ≡ f = sym a ∙ ap₂ (λ y z. getD (reg y) z no-denom) x n ∙ b in
       subst (λ (g : Denom). same-denom e g ≡ true) s (same-denom-refl e)
 
+  -- and the same name has this number
   is-name : (C : ℕ) (e : Denom) → C ≡ c → same-denom e f ≡ true → (found (same-denom e) (reg C) ≡ true) × (eqb (place (same-denom e) (reg C)) d ≡ true)
   is-name C e x t =
       let s = same-denom-true e f t in
@@ -59,14 +62,17 @@ module _ (reg : Registers) (c d : ℕ) (f : Denom) (at : Placed reg c d f) where
     abbrev esc-raw : Weight
     esc-raw = λ c a d. found (same-denom e) (reg C) && (eqb C c && eqb (escrow-account K) a && eqb (place (same-denom e) (reg C)) d)
 
+    -- escrow is one balance, where e is registered
     esc-measure : Measure (λ b. Esc reg b C K e) esc-raw
     esc-measure =
         gated (found (same-denom e) (reg C)) (λ b. b C (escrow-account K) (place (same-denom e) (reg C)))
         (λ c a d. eqb C c && eqb (escrow-account K) a && eqb (place (same-denom e) (reg C)) d) (one-balance C (escrow-account K) (place (same-denom e) (reg C)))
 
+    -- whether a change at account a of c under f is a change of that escrow
     abbrev pub esc-hit : ℕ → Bool
     esc-hit a = eqb C c && eqb (escrow-account K) a && same-denom e f
 
+    -- which is what the measure counts
     esc-weight : (a : ℕ) → esc-raw c a d ≡ esc-hit a
     esc-weight a =
         let F = found (same-denom e) (reg C) in
@@ -85,6 +91,7 @@ module _ (reg : Registers) (c d : ℕ) (f : Denom) (at : Placed reg c d f) where
         let r = is-name C e (eqb-true C c (z .0)) (y .1) in
         and-from F (P && Q && N) (r .0) (and-from (P && Q) N (y .0) (r .1)))
 
+    -- a user's account is no escrow
     pub esc-user : (u : ℕ) → u < users → esc-hit u ≡ false
     esc-user u l = bool-false (esc-hit u) (λ t.
         let y = and-parts (eqb C c && eqb (escrow-account K) u) (same-denom e f) t in
@@ -110,14 +117,17 @@ module _ (reg : Registers) (c d : ℕ) (f : Denom) (at : Placed reg c d f) where
     abbrev sup-raw : Weight
     sup-raw = λ c a d. found (same-denom e) (reg C) && (ltb a accounts && (eqb C c && eqb (place (same-denom e) (reg C)) d))
 
+    -- a supply is a sum of balances, where e is registered
     sup-measure : Measure (λ b. Sup reg b C e) sup-raw
     sup-measure =
         gated (found (same-denom e) (reg C)) (λ b. supply b C (place (same-denom e) (reg C)))
         (λ c a d. ltb a accounts && (eqb C c && eqb (place (same-denom e) (reg C)) d)) (supply-measure C (place (same-denom e) (reg C)))
 
+    -- whether a change on c under f is a change of that supply
     abbrev pub sup-hit : Bool
     sup-hit = eqb C c && same-denom e f
 
+    -- which is what the measure counts, at every account of the chain
     sup-weight : (a : ℕ) → a < accounts → sup-raw c a d ≡ sup-hit
     sup-weight a l =
         let F = found (same-denom e) (reg C) in
@@ -174,9 +184,11 @@ named-grown reg c f C e m z = ⊎-elim old new (cases-lt (place (same-denom e) (
         gate-zero (found (same-denom e) (grown reg c f C)) ∙
         ap (λ x. gate x (m (place (same-denom e) (reg C)))) (sym b)
 
+-- an escrow stays when a denomination is enrolled
 pub esc-grown : (reg : Registers) (b : Balances) (c : ℕ) (f : Denom) → Blank reg b → (C K : ℕ) (e : Denom) → Esc (grown reg c f) b C K e ≡ Esc reg b C K e
 esc-grown reg b c f h C K e = named-grown reg c f C e (λ d. b C (escrow-account K) d) (λ d l. h C (escrow-account K) d l)
 
+-- so does a supply
 pub sup-grown : (reg : Registers) (b : Balances) (c : ℕ) (f : Denom) → Blank reg b → (C : ℕ) (e : Denom) → Sup (grown reg c f) b C e ≡ Sup reg b C e
 sup-grown reg b c f h C e = named-grown reg c f C e (λ d. supply b C d) (λ d l. sum-zero accounts (λ a. b C a d) (λ a. h C a d l))
 

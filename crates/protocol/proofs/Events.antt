@@ -16,15 +16,16 @@ use Rattle.std.proofs.shelf.Tests.{eqb-true, eq-eqb, and-parts, and-from, both-
 use Rattle.sums.specs.Sums.{gate}
 use Rattle.denom.specs.Denomination.{Denom}
 use Rattle.protocol.specs.Ledger.{Ledger}
-use Rattle.protocol.specs.Book.{Book, is-one, taken}
-use Rattle.protocol.specs.World.{Link, Packet, World, end-at, lane-out, lowest-unused, mark-of, is-open, book-of, lane, link-kind, no-link, mark-at}
-use Rattle.protocol.specs.Calls.{Answer, done, says, no, Call, open-link, issue, retire, pay, send, receive, ack, timeout, tick, bar, unbar, home, refusals, outcome, step, ended, mark-written, same-kind, no-packet, no-more-standing, packet-place, packet-at, arrival-mark, refunded, sent-packet, next-sequence}
+use Rattle.protocol.specs.Book.{Book, is-one}
+use Rattle.protocol.specs.World.{Link, Packet, World, end-at, lane-out, lowest-unused, mark-of, is-open, lane, link-kind, no-link, mark-at}
+use Rattle.protocol.specs.Calls.{Answer, done, says, no, Call, open-link, issue, retire, pay, send, receive, ack, timeout, tick, bar, unbar, home, refusals, outcome, step, ended, mark-written, no-packet, no-more-standing, packet-place, packet-at, arrival-mark, refunded, sent-packet, next-sequence}
 use Rattle.protocol.specs.Laws.{settlements, world, receives, good-receipt, bad-receipt, refund, good-receipts, badly-received, refunds, answer}
-use Rattle.protocol.proofs.Bools.{bool-false, and-true, and-false, or-false, same-kind-refl}
+use Rattle.protocol.proofs.Bools.{bool-false, and-true, and-false, or-false}
 use Rattle.protocol.proofs.Places.{place-hit, place-first}
 use Rattle.protocol.proofs.Homes.{length-ends}
 use Rattle.protocol.proofs.Good.{Sound, Key, no-key, key, on-lane, Good}
 use Rattle.protocol.proofs.Grow.{on-lane-keys}
+use Rattle.protocol.proofs.Marking.{mark-other, mark-here}
 use Rattle.protocol.proofs.Views.{Clear, step-by, Stands, marked-at, receive-facts, ack-facts, timeout-facts}
 use Rattle.protocol.proofs.Moves.{arrival-by}
 use Rattle.protocol.proofs.Kept.{good-world}
@@ -34,15 +35,22 @@ abbrev pub is-bad : Option ℕ → Bool
 is-bad None = false
 is-bad (Some m) = not (eqb m 1)
 
--- how often each key was settled, and whether it was badly received, told by the world
+-- of one packet: how often it was settled and whether it was badly received, told by its standing and mark
+abbrev pub Told : World → (ℕ → ℕ → ℕ) → (ℕ → ℕ → Bool) → Packet → Type 0
+Told w ev bd p =
+    (ev (p .lane) (p .sequence) ≡ gate (not (is-open w p)) 1) × (bd (p .lane) (p .sequence) ≡ is-bad (mark-of w p))
+
+-- no packet has this key
+abbrev pub Unsent : List Packet → ℕ → ℕ → Type 0
+Unsent ps i s = (q : ℕ) → q < length ps → key (getD ps q no-packet) ≡ (i, s) → ⊥
+
+-- of all keys: so of those that were sent, and nothing of the others
 abbrev pub Tells : World → (ℕ → ℕ → ℕ) → (ℕ → ℕ → Bool) → Type 0
 Tells w ev bd =
-    ((q : ℕ) → q < length (w .packets) →
-    (ev (getD (w .packets) q no-packet .lane) (getD (w .packets) q no-packet .sequence) ≡ gate (not (is-open w (getD (w .packets) q no-packet))) 1) ×
-    (bd (getD (w .packets) q no-packet .lane) (getD (w .packets) q no-packet .sequence) ≡ is-bad (mark-of w (getD (w .packets) q no-packet)))) ×
-    ((i s : ℕ) → ((q : ℕ) → q < length (w .packets) → key (getD (w .packets) q no-packet) ≡ (i, s) → ⊥) →
-    (ev i s ≡ 0) × (bd i s ≡ false))
+    ((q : ℕ) → q < length (w .packets) → Told w ev bd (getD (w .packets) q no-packet)) ×
+    ((i s : ℕ) → Unsent (w .packets) i s → (ev i s ≡ 0) × (bd i s ≡ false))
 
+-- figures that are the same tell the same
 tells-as :
     (w : World) (ev ev′ : ℕ → ℕ → ℕ) (bd bd′ : ℕ → ℕ → Bool) → ((i s : ℕ) → ev′ i s ≡ ev i s) → ((i s : ℕ) → bd′ i s ≡ bd i s) →
     Tells w ev bd → Tells w ev′ bd′
@@ -69,11 +77,13 @@ about-other i s p ne = bool-false (eqb i (p .lane) && eqb s (p .sequence)) (λ t
     let y = eqb-true s (p .sequence) (b .1) in
     ne (λ k. (sym x k, sym y k)))
 
+-- a call about a packet's key is about it
 about-this : (i s : ℕ) (p : Packet) → key p ≡ (i, s) → (eqb i (p .lane) && eqb s (p .sequence)) ≡ true
 about-this i s p e =
     and-from (eqb i (p .lane)) (eqb s (p .sequence)) (eq-eqb i (p .lane) (ap (λ (k : Key). k .0) (sym e)))
     (eq-eqb s (p .sequence) (ap (λ (k : Key). k .1) (sym e)))
 
+-- keys apart
 about-key : (i s j r : ℕ) → (_≡_ {A = Key} (i, s) (j, r) → ⊥) → (eqb i j && eqb s r) ≡ false
 about-key i s j r ne = bool-false (eqb i j && eqb s r) (λ t.
     let b = and-parts (eqb i j) (eqb s r) t in
@@ -81,39 +91,36 @@ about-key i s j r ne = bool-false (eqb i j && eqb s r) (λ t.
     let y = eqb-true s r (b .1) in
     ne (λ k. (x k, y k)))
 
--- Marks
+-- A packet once sent stays in its place; only its standing changes.
 
-module _ (w : World) (i s m : ℕ) where
-  mark-other : (p : Packet) → (key p ≡ (i, s) → ⊥) → mark-of (mark-written w i s m) p ≡ mark-of w p
-  mark-other p ne = go (same-kind (link-kind w (p .lane)) (link-kind w i))
-    where
-      inner :
-          (b c : Bool) → (b ≡ true → p .lane ≡ i) → (c ≡ true → p .sequence ≡ s) →
-          cond (b && c) (Some m) (w .books (link-kind w (p .lane)) .mark (p .lane) (p .sequence)) ≡ mark-of w p
-      inner true true f g = absurd (ne (λ k. (f refl k, g refl k)))
-      inner true false f g = refl
-      inner false c f g = refl
+-- each packet is in its place, the same but for its standing
+abbrev pub Stays : List Packet → List Packet → Type 0
+Stays ps ps′ =
+    (q : ℕ) → q < length ps →
+    (q < length ps′) × (no-more-standing (getD ps′ q no-packet) ≡ no-more-standing (getD ps q no-packet))
 
-      go :
-          (a : Bool) →
-          (cond a (taken (w .books (link-kind w (p .lane))) i s m) (w .books (link-kind w (p .lane)))) .mark (p .lane) (p .sequence) ≡ mark-of w p
-      go false = refl
-      go true = inner (eqb (p .lane) i) (eqb (p .sequence) s) (eqb-true (p .lane) i) (eqb-true (p .sequence) s)
+-- nothing changed
+stays-same : (ps : List Packet) → Stays ps ps
+stays-same ps q l = (l, refl)
 
-  mark-here : (p : Packet) → key p ≡ (i, s) → mark-of (mark-written w i s m) p ≡ Some m
-  mark-here p e =
-      ap (λ (k : Key). mark-written w i s m .books (link-kind w (k .0)) .mark (k .0) (k .1)) e ∙
-      go (same-kind (link-kind w i) (link-kind w i)) (same-kind-refl (link-kind w i))
-    where
-      go :
-          (a : Bool) → a ≡ true →
-          (cond a (taken (w .books (link-kind w i)) i s m) (w .books (link-kind w i))) .mark i s ≡ Some m
-      go true f = ap₂ (λ x y. cond (x && y) (Some m) (w .books (link-kind w i) .mark i s)) (eq-eqb i i refl) (eq-eqb s s refl)
-      go false f = absurd (both-ways false refl f)
+-- a packet recorded behind
+stays-push : (ps : List Packet) (p : Packet) → Stays ps (ps ++ p ∷ [])
+stays-push ps p q l = (omega (arith, length-push ps p), ap no-more-standing (getD-append-left ps (p ∷ []) no-packet q l))
+
+-- a packet that ends
+stays-set : (ps : List Packet) (r : ℕ) → r < length ps → Stays ps (set ps r (no-more-standing (getD ps r no-packet)))
+stays-set ps r m q l = (
+  rw length-set l,
+  ⊎-elim
+      (λ e. subst (λ x. no-more-standing (getD (set ps r (no-more-standing (getD ps r no-packet))) x no-packet) ≡ no-more-standing (getD ps x no-packet)) (sym e) (ap no-more-standing (getD-set-same ps r (no-more-standing (getD ps r no-packet)) no-packet m)))
+      (λ ne. ap no-more-standing (getD-set-other ps r q (no-more-standing (getD ps r no-packet)) no-packet ne))
+      (cases-eq q r),
+)
 
 -- One call
 
 module _ (w : World) (g : Good w) (G R : ℕ → ℕ → ℕ) (B : ℕ → ℕ → Bool) (t : Tells w (λ i s. G i s + R i s) B) where
+  -- what is told after a call with this answer
   abbrev After : Call → World × Answer → Type 0
   After c r =
       Tells
@@ -125,6 +132,7 @@ module _ (w : World) (g : Good w) (G R : ℕ → ℕ → ℕ) (B : ℕ → ℕ �
   quiet : (w′ : World) → Tells w′ (λ i s. G i s + R i s) B → Tells w′ (λ i s. (G i s + 0) + (R i s + 0)) (λ i s. B i s || false)
   quiet w′ = tells-as w′ (λ i s. G i s + R i s) (λ i s. (G i s + 0) + (R i s + 0)) B (λ i s. B i s || false) (λ i s. omega arith) (λ i s. or-false (B i s))
 
+  -- a refused call tells nothing new
   tells-refused : (c : Call) (n : ℕ) → After c (w, no n)
   tells-refused c n =
       tells-as w (λ i s. G i s + R i s) (λ i s. (G i s + gate (good-receipt i s c (no n)) 1) + (R i s + 0)) B
@@ -133,6 +141,7 @@ module _ (w : World) (g : Good w) (G R : ℕ → ℕ → ℕ) (B : ℕ → ℕ �
       (λ i s. ap (λ x. B i s || x) (and-false (receives i s c)) ∙ or-false (B i s))
       t
 
+  -- a link opened leaves all marks
   tells-open : (a b : ℕ) (k : Bool) → Tells (outcome w (open-link a b k) .0) (λ i s. G i s + R i s) B
   tells-open a b k = (
     λ q l.
@@ -147,10 +156,15 @@ module _ (w : World) (g : Good w) (G R : ℕ → ℕ → ℕ) (B : ℕ → ℕ �
     t .1,
   )
 
+  -- a packet sent is not settled, since its key is new
   tells-send :
       (c k u v : ℕ) (e : Denom) (n T : ℕ) → Tells (outcome w (send c k u v e n T) .0) (λ i s. G i s + R i s) B
-  tells-send c k u v e n T =
-      (λ q l. ⊎-elim (old q) (last q l) (cases-lt q (length (w .packets))), λ i s h. t .1 i s (λ q l x. h q (omega (arith, length-push (w .packets) p)) (ap key (getD-append-left (w .packets) (p ∷ []) no-packet q l) ∙ x)))
+  tells-send c k u v e n T = (
+    λ q l. ⊎-elim (old q) (last q l) (cases-lt q (length (w .packets))),
+    λ i s h.
+        t .1 i s (λ q l x.
+        h q (omega (arith, length-push (w .packets) p)) (ap key (getD-append-left (w .packets) (p ∷ []) no-packet q l) ∙ x)),
+  )
     where
       p : Packet
       p = sent-packet w c k u v e n T
@@ -158,158 +172,148 @@ module _ (w : World) (g : Good w) (G R : ℕ → ℕ → ℕ) (B : ℕ → ℕ �
       i : ℕ
       i = lane-out (w .links) c k
 
-      Told : Packet → Type 0
-      Told x =
-          (G (x .lane) (x .sequence) + R (x .lane) (x .sequence) ≡ gate (not (is-open w x)) 1) ×
-          (B (x .lane) (x .sequence) ≡ is-bad (mark-of w x))
+      This : Packet → Type 0
+      This = Told w (λ i s. G i s + R i s) B
 
-      old : (q : ℕ) → q < length (w .packets) → Told (getD (w .packets ++ p ∷ []) q no-packet)
-      old q l = subst Told (sym (getD-append-left (w .packets) (p ∷ []) no-packet q l)) (t .0 q l)
+      old : (q : ℕ) → q < length (w .packets) → This (getD (w .packets ++ p ∷ []) q no-packet)
+      old q l = subst This (sym (getD-append-left (w .packets) (p ∷ []) no-packet q l)) (t .0 q l)
 
       none : (kd : Bool) → w .books kd .mark i (next-sequence w i) ≡ None
       none kd = g .numbered .fresh kd i (next-sequence w i) (omega (arith, on-lane-keys i (w .packets)))
 
-      unsent : (q : ℕ) → q < length (w .packets) → key (getD (w .packets) q no-packet) ≡ (i, next-sequence w i) → ⊥
-      unsent q l x =
+      fresh-key : Unsent (w .packets) i (next-sequence w i)
+      fresh-key q l x =
           let m : q < length (map key (w .packets)) = rw (length-map (w .packets) key) l in
-          let up = g .numbered .upto q m in
           let is : getD (map key (w .packets)) q no-key ≡ (i, next-sequence w i) = getD-map key (w .packets) q no-packet no-key l ∙ x in
-          let up′ : next-sequence w i ≤ on-lane i (map key (w .packets)) = subst (λ (y : Key). y .1 ≤ on-lane (y .0) (map key (w .packets))) is up in
+          let up : next-sequence w i ≤ on-lane i (map key (w .packets)) =
+          subst (λ (y : Key). y .1 ≤ on-lane (y .0) (map key (w .packets))) is (g .numbered .upto q m) in
           omega (arith, on-lane-keys i (w .packets))
 
-      new : Told p
+      new : This p
       new =
-          let z = t .1 i (next-sequence w i) unsent in
+          let z = t .1 i (next-sequence w i) fresh-key in
           (z .0 ∙ ap (λ o. gate (not (true && not (is-one o))) 1) (sym (none (link-kind w i))), z .1 ∙ ap is-bad (sym (none (link-kind w i))))
 
-      last : (q : ℕ) → q < length (w .packets ++ p ∷ []) → length (w .packets) ≤ q → Told (getD (w .packets ++ p ∷ []) q no-packet)
-      last q l m = subst Told (sym (getD-push (w .packets) p no-packet q (omega (arith, length-push (w .packets) p)))) new
+      last : (q : ℕ) → q < length (w .packets ++ p ∷ []) → length (w .packets) ≤ q → This (getD (w .packets ++ p ∷ []) q no-packet)
+      last q l m = subst This (sym (getD-push (w .packets) p no-packet q (omega (arith, length-push (w .packets) p)))) new
 
   -- a receive that writes the mark m
-  tells-mark :
-      (l d s m : ℕ) → Stands w (lane l d) s → book-of w (lane l d) .mark (lane l d) s ≡ None →
-      After (receive l d s) (mark-written w (lane l d) s m, says m)
-  tells-mark l d s m st none = (
-    λ q h. ⊎-elim (λ e. subst Told (sym e) here) (other q h) (cases-eq q q₀),
-    λ j r h.
-        let a : (eqb i j && eqb s r) ≡ false = about-key i s j r (λ x. h q₀ (st .place-in) (st .key-is ∙ x)) in (
-          omega (arith, ap (λ x. gate (x && eqb m 1) 1) a, t .1 j r h .0),
-          ap₂ (λ x y. x || (y && not (eqb m 1))) (t .1 j r h .1) a,
-        ),
-  )
-    where
-      i : ℕ
-      i = lane l d
+  module _ (l d s m : ℕ) (st : Stands w (lane l d) s) (none : mark-at w (lane l d) s ≡ None) where
+    -- whether it is about this key
+    abbrev about : ℕ → ℕ → Bool
+    about j r = eqb (lane l d) j && eqb s r
 
-      q₀ : ℕ
-      q₀ = packet-place w (lane l d) s
+    -- what is told of a packet after it
+    abbrev Marked : Packet → Type 0
+    Marked =
+        Told
+        (mark-written w (lane l d) s m)
+        (λ j r. (G j r + gate (about j r && eqb m 1) 1) + (R j r + 0))
+        (λ j r. B j r || (about j r && not (eqb m 1)))
 
-      w′ : World
-      w′ = mark-written w (lane l d) s m
+    not-not : (b : Bool) → not (not b) ≡ b
+    not-not true = refl
+    not-not false = refl
 
-      Told : ℕ → Type 0
-      Told q =
-          ((G (getD (w .packets) q no-packet .lane) (getD (w .packets) q no-packet .sequence) + gate ((eqb (lane l d) (getD (w .packets) q no-packet .lane) && eqb s (getD (w .packets) q no-packet .sequence)) && eqb m 1) 1) +
-          (R (getD (w .packets) q no-packet .lane) (getD (w .packets) q no-packet .sequence) + 0) ≡
-          gate (not (is-open (mark-written w (lane l d) s m) (getD (w .packets) q no-packet))) 1) ×
-          ((B (getD (w .packets) q no-packet .lane) (getD (w .packets) q no-packet .sequence) || ((eqb (lane l d) (getD (w .packets) q no-packet .lane) && eqb s (getD (w .packets) q no-packet .sequence)) && not (eqb m 1))) ≡
-          is-bad (mark-of (mark-written w (lane l d) s m) (getD (w .packets) q no-packet)))
+    -- the packet that it is about
+    marked-here : Marked (packet-at w (lane l d) s)
+    marked-here =
+        let p = packet-at w (lane l d) s in
+        let was = marked-at w (lane l d) s st ∙ none in
+        let a = about-this (lane l d) s p (st .key-is) in
+        let o = t .0 (packet-place w (lane l d) s) (st .place-in) in
+        let open-was : gate (not (is-open w p)) 1 ≡ 0 = ap₂ (λ x y. gate (not (x && not (is-one y))) 1) (st .standing) was in
+        let mk = mark-here w (lane l d) s m p (st .key-is) in
+        let open-is : gate (not (is-open (mark-written w (lane l d) s m) p)) 1 ≡ gate (eqb m 1) 1 =
+        ap₂ (λ x y. gate (not (x && not (is-one y))) 1) (st .standing) mk ∙ ap (λ x. gate x 1) (not-not (eqb m 1)) in
+        let bad-was : B (p .lane) (p .sequence) ≡ false = o .1 ∙ ap is-bad was in (
+          omega (arith, o .0, open-was, open-is, ap (λ x. gate (x && eqb m 1) 1) a),
+          ap₂ (λ x y. x || (y && not (eqb m 1))) bad-was a ∙ ap is-bad (sym mk),
+        )
 
-      was : mark-of w (packet-at w (lane l d) s) ≡ None
-      was = ap (λ (k : Key). book-of w (k .0) .mark (k .0) (k .1)) (st .key-is) ∙ none
+    -- every other
+    marked-other : (q : ℕ) → q < length (w .packets) → (q ≡ packet-place w (lane l d) s → ⊥) → Marked (getD (w .packets) q no-packet)
+    marked-other q h ne =
+        let p = getD (w .packets) q no-packet in
+        let k : key p ≡ (lane l d, s) → ⊥ = λ x. ne (one-place w g q (packet-place w (lane l d) s) h (st .place-in) (x ∙ sym (st .key-is))) in
+        let a = about-other (lane l d) s p k in
+        let mk = mark-other w (lane l d) s m p k in
+        let o = t .0 q h in (
+          omega (arith, o .0, ap (λ x. gate (not (p .standing && not (is-one x))) 1) mk, ap (λ x. gate (x && eqb m 1) 1) a),
+          ap (λ x. B (p .lane) (p .sequence) || (x && not (eqb m 1))) a ∙ or-false (B (p .lane) (p .sequence)) ∙ o .1 ∙ ap is-bad (sym mk),
+        )
 
-      not-not : (b : Bool) → not (not b) ≡ b
-      not-not true = refl
-      not-not false = refl
-
-      here : Told (packet-place w (lane l d) s)
-      here =
-          let p = packet-at w (lane l d) s in
-          let a = about-this (lane l d) s p (st .key-is) in
-          let o = t .0 (packet-place w (lane l d) s) (st .place-in) in
-          let open-was : gate (not (is-open w p)) 1 ≡ 0 = ap₂ (λ x y. gate (not (x && not (is-one y))) 1) (st .standing) was in
-          let mk = mark-here w (lane l d) s m p (st .key-is) in
-          let open-is : gate (not (is-open (mark-written w (lane l d) s m) p)) 1 ≡ gate (eqb m 1) 1 =
-          ap₂ (λ x y. gate (not (x && not (is-one y))) 1) (st .standing) mk ∙ ap (λ x. gate x 1) (not-not (eqb m 1)) in
-          let bad-was : B (p .lane) (p .sequence) ≡ false = o .1 ∙ ap is-bad was in (
-            omega (arith, o .0, open-was, open-is, ap (λ x. gate (x && eqb m 1) 1) a),
-            ap₂ (λ x y. x || (y && not (eqb m 1))) bad-was a ∙ ap is-bad (sym mk),
-          )
-
-      other : (q : ℕ) → q < length (w .packets) → (q ≡ packet-place w (lane l d) s → ⊥) → Told q
-      other q h ne =
-          let p = getD (w .packets) q no-packet in
-          let k : key p ≡ (lane l d, s) → ⊥ = λ x. ne (one-place w g q (packet-place w (lane l d) s) h (st .place-in) (x ∙ sym (st .key-is))) in
-          let a = about-other (lane l d) s p k in
-          let mk = mark-other w (lane l d) s m p k in
-          let o = t .0 q h in (
-            omega (arith, o .0, ap (λ x. gate (not (p .standing && not (is-one x))) 1) mk, ap (λ x. gate (x && eqb m 1) 1) a),
-            ap (λ x. B (p .lane) (p .sequence) || (x && not (eqb m 1))) a ∙ or-false (B (p .lane) (p .sequence)) ∙ o .1 ∙ ap is-bad (sym mk),
-          )
+    -- all keys
+    tells-mark : After (receive l d s) (mark-written w (lane l d) s m, says m)
+    tells-mark = (
+      λ q h.
+          ⊎-elim
+          (λ e. subst (λ x. Marked (getD (w .packets) x no-packet)) (sym e) marked-here)
+          (marked-other q h)
+          (cases-eq q (packet-place w (lane l d) s)),
+      λ j r h.
+          let a : about j r ≡ false = about-key (lane l d) s j r (λ x. h (packet-place w (lane l d) s) (st .place-in) (st .key-is ∙ x)) in (
+            omega (arith, ap (λ x. gate (x && eqb m 1) 1) a, t .1 j r h .0),
+            ap₂ (λ x y. x || (y && not (eqb m 1))) (t .1 j r h .1) a,
+          ),
+    )
 
   -- a call that ends a packet: it is a refund of that key where `counts` says so
-  tells-ended :
-      (i s : ℕ) (counts : Bool → Bool) → Stands w i s →
-      gate (not (is-open w (packet-at w i s))) 1 + gate (counts (B (packet-at w i s .lane) (packet-at w i s .sequence))) 1 ≡ 1 →
-      Tells
-      (ended w (packet-place w i s))
-      (λ j r. (G j r + 0) + (R j r + gate ((eqb i j && eqb s r) && counts (B j r)) 1))
-      (λ j r. B j r || false)
-  tells-ended i s counts st one = (
-    λ q h. ⊎-elim (λ e. subst Told (sym e) here) (other q (rw length-set at h)) (cases-eq q (packet-place w i s)),
-    λ j r h.
-        let u : (q : ℕ) → q < length (w .packets) → key (getD (w .packets) q no-packet) ≡ (j, r) → ⊥ =
-        λ q l x. h q (rw length-set l) (key-stays q l ∙ x) in
-        let a : (eqb i j && eqb s r) ≡ false = about-key i s j r (λ x. u (packet-place w i s) (st .place-in) (st .key-is ∙ x)) in
-        (omega (arith, t .1 j r u .0, ap (λ x. gate (x && counts (B j r)) 1) a), or-false (B j r) ∙ t .1 j r u .1),
-  )
-    where
-      p₀ : Packet
-      p₀ = packet-at w i s
+  module _ (i s : ℕ) (counts : Bool → Bool) (st : Stands w i s)
+      (one : gate (not (is-open w (packet-at w i s))) 1 + gate (counts (B (packet-at w i s .lane) (packet-at w i s .sequence))) 1 ≡ 1) where
+    -- the packets with this one ended
+    abbrev rest : List Packet
+    rest = set (w .packets) (packet-place w i s) (no-more-standing (packet-at w i s))
 
-      ps : List Packet
-      ps = set (w .packets) (packet-place w i s) (no-more-standing (packet-at w i s))
+    -- what is told of a packet after it
+    abbrev Ended : Packet → Type 0
+    Ended = Told w (λ j r. (G j r + 0) + (R j r + gate ((eqb i j && eqb s r) && counts (B j r)) 1)) (λ j r. B j r || false)
 
-      Told : ℕ → Type 0
-      Told q =
-          ((G (getD (set (w .packets) (packet-place w i s) (no-more-standing (packet-at w i s))) q no-packet .lane) (getD (set (w .packets) (packet-place w i s) (no-more-standing (packet-at w i s))) q no-packet .sequence) + 0) +
-          (R (getD (set (w .packets) (packet-place w i s) (no-more-standing (packet-at w i s))) q no-packet .lane) (getD (set (w .packets) (packet-place w i s) (no-more-standing (packet-at w i s))) q no-packet .sequence) + gate ((eqb i (getD (set (w .packets) (packet-place w i s) (no-more-standing (packet-at w i s))) q no-packet .lane) && eqb s (getD (set (w .packets) (packet-place w i s) (no-more-standing (packet-at w i s))) q no-packet .sequence)) && counts (B (getD (set (w .packets) (packet-place w i s) (no-more-standing (packet-at w i s))) q no-packet .lane) (getD (set (w .packets) (packet-place w i s) (no-more-standing (packet-at w i s))) q no-packet .sequence))) 1) ≡
-          gate (not (is-open w (getD (set (w .packets) (packet-place w i s) (no-more-standing (packet-at w i s))) q no-packet))) 1) ×
-          ((B (getD (set (w .packets) (packet-place w i s) (no-more-standing (packet-at w i s))) q no-packet .lane) (getD (set (w .packets) (packet-place w i s) (no-more-standing (packet-at w i s))) q no-packet .sequence) || false) ≡
-          is-bad (mark-of w (getD (set (w .packets) (packet-place w i s) (no-more-standing (packet-at w i s))) q no-packet)))
+    -- the packet that it is about
+    ended-here : Ended (getD rest (packet-place w i s) no-packet)
+    ended-here =
+        let p = packet-at w i s in
+        let o = t .0 (packet-place w i s) (st .place-in) in
+        let a = about-this i s p (st .key-is) in
+        let b : gate ((eqb i (p .lane) && eqb s (p .sequence)) && counts (B (p .lane) (p .sequence))) 1 ≡ gate (counts (B (p .lane) (p .sequence))) 1 =
+        ap (λ x. gate (x && counts (B (p .lane) (p .sequence))) 1) a in
+        let r : Ended (no-more-standing p) = (omega (arith, o .0, one, b), or-false (B (p .lane) (p .sequence)) ∙ o .1) in
+        subst Ended (sym (getD-set-same (w .packets) (packet-place w i s) (no-more-standing p) no-packet (st .place-in))) r
 
-      ToldOf : Packet → Type 0
-      ToldOf x =
-          ((G (x .lane) (x .sequence) + 0) + (R (x .lane) (x .sequence) + gate ((eqb i (x .lane) && eqb s (x .sequence)) && counts (B (x .lane) (x .sequence))) 1) ≡ gate (not (is-open w x)) 1) ×
-          ((B (x .lane) (x .sequence) || false) ≡ is-bad (mark-of w x))
+    -- every other
+    ended-other : (q : ℕ) → q < length (w .packets) → (q ≡ packet-place w i s → ⊥) → Ended (getD rest q no-packet)
+    ended-other q h ne =
+        let p = getD (w .packets) q no-packet in
+        let k : key p ≡ (i, s) → ⊥ = λ x. ne (one-place w g q (packet-place w i s) h (st .place-in) (x ∙ sym (st .key-is))) in
+        let a = about-other i s p k in
+        let o = t .0 q h in
+        let r : Ended p =
+        (omega (arith, o .0, ap (λ x. gate (x && counts (B (p .lane) (p .sequence))) 1) a), or-false (B (p .lane) (p .sequence)) ∙ o .1) in
+        subst Ended (sym (getD-set-other (w .packets) (packet-place w i s) q (no-more-standing (packet-at w i s)) no-packet ne)) r
 
-      here : Told (packet-place w i s)
-      here =
-          let o = t .0 (packet-place w i s) (st .place-in) in
-          let a = about-this i s (packet-at w i s) (st .key-is) in
-          let b : gate ((eqb i (packet-at w i s .lane) && eqb s (packet-at w i s .sequence)) && counts (B (packet-at w i s .lane) (packet-at w i s .sequence))) 1 ≡ gate (counts (B (packet-at w i s .lane) (packet-at w i s .sequence))) 1 =
-          ap (λ x. gate (x && counts (B (packet-at w i s .lane) (packet-at w i s .sequence))) 1) a in
-          let r : ToldOf (no-more-standing (packet-at w i s)) =
-          (omega (arith, o .0, one, b), or-false (B (packet-at w i s .lane) (packet-at w i s .sequence)) ∙ o .1) in
-          subst ToldOf (sym (getD-set-same (w .packets) (packet-place w i s) (no-more-standing (packet-at w i s)) no-packet (st .place-in))) r
+    -- keys stay
+    key-stays : (q : ℕ) → q < length (w .packets) → key (getD rest q no-packet) ≡ key (getD (w .packets) q no-packet)
+    key-stays q l = ap key (stays-set (w .packets) (packet-place w i s) (st .place-in) q l .1)
 
-      other : (q : ℕ) → q < length (w .packets) → (q ≡ packet-place w i s → ⊥) → Told q
-      other q h ne =
-          let p = getD (w .packets) q no-packet in
-          let k : key p ≡ (i, s) → ⊥ = λ x. ne (one-place w g q (packet-place w i s) h (st .place-in) (x ∙ sym (st .key-is))) in
-          let a = about-other i s p k in
-          let o = t .0 q h in
-          let r : ToldOf p =
-          (omega (arith, o .0, ap (λ x. gate (x && counts (B (p .lane) (p .sequence))) 1) a), or-false (B (p .lane) (p .sequence)) ∙ o .1) in
-          subst ToldOf (sym (getD-set-other (w .packets) (packet-place w i s) q (no-more-standing (packet-at w i s)) no-packet ne)) r
-
-      key-stays : (q : ℕ) → q < length (w .packets) → key (getD (set (w .packets) (packet-place w i s) (no-more-standing (packet-at w i s))) q no-packet) ≡ key (getD (w .packets) q no-packet)
-      key-stays q l =
+    -- all keys
+    tells-ended :
+        Tells
+        (ended w (packet-place w i s))
+        (λ j r. (G j r + 0) + (R j r + gate ((eqb i j && eqb s r) && counts (B j r)) 1))
+        (λ j r. B j r || false)
+    tells-ended = (
+      λ q h.
           ⊎-elim
-          (λ e. ap (λ x. key (getD (set (w .packets) (packet-place w i s) (no-more-standing (packet-at w i s))) x no-packet)) e ∙ ap key (getD-set-same (w .packets) (packet-place w i s) (no-more-standing (packet-at w i s)) no-packet (st .place-in)) ∙ ap (λ x. key (getD (w .packets) x no-packet)) (sym e))
-          (λ ne. ap key (getD-set-other (w .packets) (packet-place w i s) q (no-more-standing (packet-at w i s)) no-packet ne))
-          (cases-eq q (packet-place w i s))
+          (λ e. subst (λ x. Ended (getD rest x no-packet)) (sym e) ended-here)
+          (ended-other q (rw length-set at h))
+          (cases-eq q (packet-place w i s)),
+      λ j r h.
+          let u : Unsent (w .packets) j r = λ q l x. h q (rw length-set l) (key-stays q l ∙ x) in
+          let a : (eqb i j && eqb s r) ≡ false = about-key i s j r (λ x. u (packet-place w i s) (st .place-in) (st .key-is ∙ x)) in
+          (omega (arith, t .1 j r u .0, ap (λ x. gate (x && counts (B j r)) 1) a), or-false (B j r) ∙ t .1 j r u .1),
+    )
 
+  -- every call
   tells-outcome : (c : Call) → Clear (refusals w c) → After c (outcome w c)
   tells-outcome (open-link a b k) h = quiet (outcome w (open-link a b k) .0) (tells-open a b k)
   tells-outcome (issue c u s n) h = quiet (outcome w (issue c u s n) .0) t
@@ -323,9 +327,6 @@ module _ (w : World) (g : Good w) (G R : ℕ → ℕ → ℕ) (B : ℕ → ℕ �
       arrival-by w (packet-at w (lane l d) s) (λ x. After (receive l d s) (mark-written x (lane l d) s m, says m)) (λ _. r) (λ _ _. r) (λ _ _. r)
   tells-outcome (ack l d s) h = go (is-one (mark-at w (lane l d) s))
     where
-      f : Stands w (lane l d) s
-      f = ack-facts w l d s h .0
-
       one :
           (o : Option ℕ) (x : Bool) → isSome o ≡ true → x ≡ is-bad o → gate (not (true && not (is-one o))) 1 + gate x 1 ≡ 1
       one None x e y = absurd (both-ways false refl e)
@@ -342,8 +343,7 @@ module _ (w : World) (g : Good w) (G R : ℕ → ℕ → ℕ) (B : ℕ → ℕ �
           (λ j r. B j r || false)
       r =
           let p = packet-at w (lane l d) s in
-          let mk : mark-of w p ≡ book-of w (lane l d) .mark (lane l d) s = marked-at w (lane l d) s (ack-facts w l d s h .0) in
-          let some : isSome (mark-of w p) ≡ true = ap isSome mk ∙ ack-facts w l d s h .1 in
+          let some : isSome (mark-of w p) ≡ true = ap isSome (marked-at w (lane l d) s (ack-facts w l d s h .0)) ∙ ack-facts w l d s h .1 in
           tells-ended (lane l d) s (λ x. x) (ack-facts w l d s h .0)
           (ap (λ y. gate (not (y && not (is-one (mark-of w p)))) 1 + gate (B (p .lane) (p .sequence)) 1) (ack-facts w l d s h .0 .standing) ∙
           one (mark-of w p) (B (p .lane) (p .sequence)) some (t .0 (packet-place w (lane l d) s) (ack-facts w l d s h .0 .place-in) .1))
@@ -366,6 +366,7 @@ module _ (w : World) (g : Good w) (G R : ℕ → ℕ → ℕ) (B : ℕ → ℕ �
   tells-outcome (home c e) h = quiet w t
 
 module _ (l : Ledger) (bs : Bool → Book) where
+  -- at every moment the settlements of a packet are told by its standing and mark
   pub tells-world :
       (past : List Call) →
       Tells (world l bs past) (λ i s. settlements l bs i s past) (λ i s. badly-received l bs i s past)
@@ -378,28 +379,7 @@ module _ (l : Ledger) (bs : Bool → Book) where
       step-by w c (After w (good-world l bs past) G R B (tells-world past) c) (tells-refused w (good-world l bs past) G R B (tells-world past) c)
       (tells-outcome w (good-world l bs past) G R B (tells-world past) c)
 
--- A packet once sent stays in its place; only its standing changes.
-
-abbrev pub Stays : List Packet → List Packet → Type 0
-Stays ps ps′ =
-    (q : ℕ) → q < length ps →
-    (q < length ps′) × (no-more-standing (getD ps′ q no-packet) ≡ no-more-standing (getD ps q no-packet))
-
-stays-same : (ps : List Packet) → Stays ps ps
-stays-same ps q l = (l, refl)
-
-stays-push : (ps : List Packet) (p : Packet) → Stays ps (ps ++ p ∷ [])
-stays-push ps p q l = (omega (arith, length-push ps p), ap no-more-standing (getD-append-left ps (p ∷ []) no-packet q l))
-
-stays-set : (ps : List Packet) (r : ℕ) → r < length ps → Stays ps (set ps r (no-more-standing (getD ps r no-packet)))
-stays-set ps r m q l = (
-  rw length-set l,
-  ⊎-elim
-      (λ e. subst (λ x. no-more-standing (getD (set ps r (no-more-standing (getD ps r no-packet))) x no-packet) ≡ no-more-standing (getD ps x no-packet)) (sym e) (ap no-more-standing (getD-set-same ps r (no-more-standing (getD ps r no-packet)) no-packet m)))
-      (λ ne. ap no-more-standing (getD-set-other ps r q (no-more-standing (getD ps r no-packet)) no-packet ne))
-      (cases-eq q r),
-)
-
+-- every call
 stays-outcome : (w : World) (c : Call) → Clear (refusals w c) → Stays (w .packets) (outcome w c .0 .packets)
 stays-outcome w (open-link a b k) h = stays-same (w .packets)
 stays-outcome w (issue c u s n) h = stays-same (w .packets)
@@ -424,6 +404,7 @@ stays-outcome w (unbar c u) h = stays-same (w .packets)
 stays-outcome w (home c e) h = stays-same (w .packets)
 
 module _ (l : Ledger) (bs : Bool → Book) where
+  -- from any moment to any later one
   pub stays-world : (later past : List Call) → Stays (world l bs past .packets) (world l bs (later ++ past) .packets)
   stays-world [] past = stays-same (world l bs past .packets)
   stays-world (c ∷ later) past = λ q h.

@@ -21,6 +21,7 @@ use Rattle.protocol.specs.World.{Link, Packet, World, ends, from-end, lane-out
 use Rattle.protocol.proofs.Places.{place-le, place-hit, place-append, same-denom-true}
 use Rattle.protocol.proofs.Homes.{Apart, Leads}
 
+-- each chain's denominations
 abbrev pub Registers : Type 0
 Registers = ℕ → List Denom
 
@@ -32,6 +33,7 @@ Blank reg b = (c a d : ℕ) → length (reg c) ≤ d → b c a d ≡ 0
 abbrev pub Names : Registers → ℕ → ℕ → Denom → Type 0
 Names reg c d e = (d < length (reg c)) × (getD (reg c) d no-denom ≡ e)
 
+-- the ends of links are apart, each a channel 0 to 7 of a chain 0 to 7
 pub record Wired (ls : List Link) : Type 0 where
   pub apart : Apart ls
   pub small : (i : ℕ) → i < length (ends ls) → from-end ls i .chain < chains-most
@@ -41,9 +43,11 @@ pub record Wired (ls : List Link) : Type 0 where
 abbrev pub Idle : List Link → Balances → Type 0
 Idle ls b = (c k d : ℕ) → length (ends ls) ≤ lane-out ls c k → b c (escrow-account k) d ≡ 0
 
+-- the hops of what is registered lead through channels in use
 abbrev pub Traced : List Link → Registers → Type 0
 Traced ls reg = (c d : ℕ) → d < length (reg c) → Leads ls (getD (reg c) d no-denom .hops) c
 
+-- a packet's lane is there, its users are users, its denomination is registered where it was sent from
 pub record Sound (ls : List Link) (reg : Registers) (p : Packet) : Type 0 where
   pub lane-in : p .lane < length (ends ls)
   pub sender-in : p .sender < users
@@ -51,23 +55,29 @@ pub record Sound (ls : List Link) (reg : Registers) (p : Packet) : Type 0 where
   pub named :
       Names reg (from-end ls (p .lane) .chain) (place (same-denom (p .denom)) (reg (from-end ls (p .lane) .chain))) (p .denom)
 
+-- a packet's lane and sequence
 abbrev pub Key : Type 0
 Key = ℕ × ℕ
 
+-- what is read where there is none
 abbrev pub no-key : Key
 no-key = (0, 0)
 
+-- the key of a packet
 abbrev pub key : Packet → Key
 key p = (p .lane, p .sequence)
 
+-- how many keys are on a lane
 abbrev pub on-lane : ℕ → List Key → ℕ
 on-lane i ks = count (λ (k : Key). eqb (k .0) i) ks
 
+-- keys are apart, sequences count from 1 on each lane, and above them nothing is marked
 pub record Numbered (ks : List Key) (bs : Bool → Book) : Type 0 where
   pub distinct : (q r : ℕ) → q < length ks → r < length ks → getD ks q no-key ≡ getD ks r no-key → q ≡ r
   pub upto : (q : ℕ) → q < length ks → getD ks q no-key .1 ≤ on-lane (getD ks q no-key .0) ks
   pub fresh : (k : Bool) (i s : ℕ) → on-lane i ks < s → bs k .mark i s ≡ None
 
+-- all of it
 pub record Good (w : World) : Type 0 where
   pub blank : Blank (w .register) (w .ledger .balance)
   pub wired : Wired (w .links)
@@ -78,6 +88,7 @@ pub record Good (w : World) : Type 0 where
 
 -- Balances
 
+-- a balance changes under a number that is given out
 pub blank-put : (reg : Registers) (b : Balances) (c a d x : ℕ) → d < length (reg c) → Blank reg b → Blank reg (put b c a d x)
 blank-put reg b c a d x l h c′ a′ d′ m =
     go (eqb c′ c) (eqb a′ a) (eqb d′ d) (eqb-true c′ c) (eqb-true d′ d)
@@ -94,6 +105,7 @@ blank-put reg b c a d x l h c′ a′ d′ m =
 abbrev pub Used : List Link → ℕ → ℕ → Type 0
 Used ls c a = (k : ℕ) → escrow-account k ≡ a → lane-out ls c k < length (ends ls)
 
+-- a balance changes in an account that is used
 pub idle-put :
     (ls : List Link) (b : Balances) (c a d x : ℕ) → Used ls c a → Idle ls b → Idle ls (put b c a d x)
 idle-put ls b c a d x u h c′ k d′ m =
@@ -107,9 +119,11 @@ idle-put ls b c a d x u h c′ k d′ m =
     go true false r e f = h c′ k d′ m
     go false q r e f = h c′ k d′ m
 
+-- a user's account
 pub used-user : (ls : List Link) (c u : ℕ) → u < users → Used ls c u
 used-user ls c u l k e = absurd (omega arith)
 
+-- the escrow of a channel in use
 pub used-escrow : (ls : List Link) (c k : ℕ) → lane-out ls c k < length (ends ls) → Used ls c (escrow-account k)
 used-escrow ls c k l j e =
     let f : j ≡ k = omega arith in
@@ -117,6 +131,7 @@ used-escrow ls c k l j e =
 
 -- Registers
 
+-- what is found has its place for a number
 pub names-found :
     (reg : Registers) (c : ℕ) (e : Denom) → place (same-denom e) (reg c) < length (reg c) →
     Names reg c (place (same-denom e) (reg c)) e
@@ -143,6 +158,7 @@ module _ (reg : Registers) (c : ℕ) (e : Denom) where
       go true false f g = inr (f refl, g refl, refl)
       go false q f g = inl refl
 
+  -- no register gets shorter
   pub grown-length : (c′ : ℕ) → length (reg c′) ≤ length (grown reg c e c′)
   grown-length c′ =
       ⊎-elim
@@ -150,6 +166,7 @@ module _ (reg : Registers) (c : ℕ) (e : Denom) where
       (λ h. omega (arith, ap length (h .2), length-push (reg c′) e))
       (grown-cases c′)
 
+  -- old numbers keep their denominations
   pub grown-old : (c′ d : ℕ) → d < length (reg c′) → getD (grown reg c e c′) d no-denom ≡ getD (reg c′) d no-denom
   grown-old c′ d l =
       ⊎-elim
@@ -157,6 +174,7 @@ module _ (reg : Registers) (c : ℕ) (e : Denom) where
       (λ h. ap (λ (xs : List Denom). getD xs d no-denom) (h .2) ∙ getD-append-left (reg c′) (e ∷ []) no-denom d l)
       (grown-cases c′)
 
+  -- and denominations their numbers
   pub grown-place :
       (c′ : ℕ) (f : Denom) → place (same-denom f) (reg c′) < length (reg c′) →
       place (same-denom f) (grown reg c e c′) ≡ place (same-denom f) (reg c′)
@@ -166,6 +184,7 @@ module _ (reg : Registers) (c : ℕ) (e : Denom) where
       (λ h. ap (place (same-denom f)) (h .2) ∙ place-append (same-denom f) (reg c′) (e ∷ []) l)
       (grown-cases c′)
 
+  -- so names stay
   pub grown-names : (c′ d : ℕ) (f : Denom) → Names reg c′ d f → Names (grown reg c e) c′ d f
   grown-names c′ d f h = (omega (arith, h .0, grown-length c′), grown-old c′ d (h .0) ∙ h .1)
 
@@ -193,9 +212,11 @@ module _ (reg : Registers) (c : ℕ) (e : Denom) where
               go true false f g = refl
               go false q f g = absurd (both-ways false refl f)
 
+  -- the new number is blank too
   pub blank-grown : (b : Balances) → Blank reg b → Blank (grown reg c e) b
   blank-grown b h c′ a d l = h c′ a d (omega (arith, grown-length c′))
 
+  -- a denomination that leads home is enrolled
   pub traced-grown : (ls : List Link) → Leads ls (e .hops) c → Traced ls reg → Traced ls (grown reg c e)
   traced-grown ls lead h c′ d l = ⊎-elim old new (cases-lt d (length (reg c′)))
     where
@@ -217,6 +238,7 @@ module _ (reg : Registers) (c : ℕ) (e : Denom) where
               ap (λ (xs : List Denom). getD xs d no-denom) (g .2) ∙ getD-push (reg c′) e no-denom d n in
               rw is (rw (g .0) lead)
 
+  -- packets stay sound
   pub sound-grown : (ls : List Link) (p : Packet) → Sound ls reg p → Sound ls (grown reg c e) p
   sound-grown ls p s =
       let x = from-end ls (p .lane) .chain in

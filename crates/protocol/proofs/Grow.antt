@@ -25,9 +25,11 @@ use Rattle.protocol.proofs.Good.{Registers, Names, Wired, Idle, Traced, Sound,
 
 -- Distinct elements
 
+-- no element stands at two places
 abbrev pub Distinct : {X : Type 0} → X → List X → Type 0
 Distinct d xs = (i j : ℕ) → i < length xs → j < length xs → getD xs i d ≡ getD xs j d → i ≡ j
 
+-- a new element behind distinct ones
 pub distinct-push :
     {X : Type 0} (d : X) (xs : List X) (y : X) → Distinct d xs →
     ((i : ℕ) → i < length xs → getD xs i d ≡ y → ⊥) → Distinct d (xs ++ y ∷ [])
@@ -49,6 +51,7 @@ distinct-push {X} d xs y h new i j l m e = ⊎-elim (λ a. ⊎-elim (both a) (λ
 
 -- Links
 
+-- no end is that of a channel not in use
 pub unused-new :
     (ls : List Link) (c k : ℕ) → in-use ls c k ≡ false → (i : ℕ) → i < length (ends ls) →
     getD (ends ls) i no-end ≡ end-at c k → ⊥
@@ -62,6 +65,7 @@ numbers-at k zero i h = absurd (omega arith)
 numbers-at k (suc n) zero h = omega arith
 numbers-at k (suc n) (suc i) h = omega (arith, numbers-at (suc k) n i (omega arith))
 
+-- the lowest unused channel is not in use
 pub lowest-is-unused : (ls : List Link) (c : ℕ) → lowest-unused ls c < channels-most → in-use ls c (lowest-unused ls c) ≡ false
 unfolding lowest-unused
 lowest-is-unused ls c h =
@@ -71,10 +75,12 @@ lowest-is-unused ls c h =
     not-true (in-use ls c (lowest-unused ls c)) (subst (λ k. not (in-use ls c k) ≡ true) e t)
 
 module _ (ls : List Link) (e₀ e₁ : End) (k : Bool) where
+  -- the ends with a new link's two behind
   pub ends-push : ends (ls ++ record { end₀ = e₀; end₁ = e₁; kind = k } ∷ []) ≡ (ends ls ++ e₀ ∷ []) ++ e₁ ∷ []
   ends-push =
       ends-append ls (record { end₀ = e₀; end₁ = e₁; kind = k } ∷ []) ∙ sym (append-assoc (ends ls) (e₀ ∷ []) (e₁ ∷ []))
 
+  -- a link between two chains by channels not in use
   pub wired-push :
       Wired ls → e₀ .chain < chains-most → e₁ .chain < chains-most → e₀ .channel < channels-most → e₁ .channel < channels-most → (e₀ .chain ≡ e₁ .chain → ⊥) →
       in-use ls (e₀ .chain) (e₀ .channel) ≡ false → in-use ls (e₁ .chain) (e₁ .channel) ≡ false →
@@ -114,6 +120,7 @@ module _ (ls : List Link) (e₀ e₁ : End) (k : Bool) where
           subst Small (sym ends-push)
           (small-push (ends ls ++ e₀ ∷ []) e₁ (small-push (ends ls) e₀ (λ i l. (w .small i l, w .narrow i l)) (s₀, n₀)) (s₁, n₁))
 
+-- escrows of unused channels stay empty
 pub idle-links : (ls ms : List Link) (b : Balances) → Idle ls b → Idle (ls ++ ms) b
 idle-links ls ms b h c k d l = ⊎-elim used (h c k d) (cases-lt (lane-out ls c k) (length (ends ls)))
   where
@@ -123,9 +130,11 @@ idle-links ls ms b h c k d l = ⊎-elim used (h c k d) (cases-lt (lane-out ls c 
         ap length (ends-append ls ms) ∙ length-append (ends ls) (ends ms) in
         absurd (omega (arith, lane-out-grows ls ms c k m))
 
+-- hops lead where they led
 pub traced-links : (ls ms : List Link) (reg : Registers) → Traced ls reg → Traced (ls ++ ms) reg
 traced-links ls ms reg h c d l = leads-grows ls ms (getD (reg c) d no-denom .hops) c (h c d l)
 
+-- packets stay sound
 pub sound-links : (ls ms : List Link) (reg : Registers) (p : Packet) → Sound ls reg p → Sound (ls ++ ms) reg p
 sound-links ls ms reg p s =
     let e = from-end-grows ls ms (p .lane) (s .lane-in) in
@@ -144,13 +153,16 @@ sound-links ls ms reg p s =
 
 -- Keys
 
+-- a key more on its lane
 pub on-lane-push : (i : ℕ) (ks : List Key) (k : Key) → on-lane i (ks ++ k ∷ []) ≡ on-lane i ks + gate (eqb (k .0) i) 1
 on-lane-push i ks k = total-push (λ (x : Key). gate (eqb (x .0) i) 1) ks k
 
+-- packets on a lane are keys on it
 pub on-lane-keys : (i : ℕ) (ps : List Packet) → count (λ p. eqb (p .lane) i) ps ≡ on-lane i (map key ps)
 on-lane-keys i [] = refl
 on-lane-keys i (p ∷ ps) = ap (λ n. gate (eqb (p .lane) i) 1 + n) (on-lane-keys i ps)
 
+-- the next sequence of a lane
 pub numbered-push :
     (ks : List Key) (bs : Bool → Book) (i : ℕ) → Numbered ks bs → Numbered (ks ++ (i, suc (on-lane i ks)) ∷ []) bs
 numbered-push ks bs i h =
@@ -222,6 +234,7 @@ keys-ended ps q l =
     ap (set (map key ps) q) (sym (getD-map key ps q no-packet no-key l)) ∙
     set-getD (map key ps) q no-key
 
+-- and stays sound
 pub sound-ended : (ls : List Link) (reg : Registers) (p : Packet) → Sound ls reg p → Sound ls reg (no-more-standing p)
 sound-ended ls reg p s =
     record { lane-in = s .lane-in; sender-in = s .sender-in; receiver-in = s .receiver-in; named = s .named }

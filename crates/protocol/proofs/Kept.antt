@@ -12,15 +12,16 @@ use Rattle.denom.specs.Denomination.{Denom, hopless, behind, stripped, same-den
 use Rattle.protocol.specs.House.{escrow-account}
 use Rattle.protocol.specs.Ledger.{Ledger, Balances, credited, debited, moved}
 use Rattle.protocol.specs.Book.{Book, is-one}
-use Rattle.protocol.specs.World.{End, Link, Packet, World, made, back, end-at, lane-out, lowest-unused, number, lane, link-kind, mark-at}
+use Rattle.protocol.specs.World.{End, Link, Packet, World, made, back, end-at, lane-out, lowest-unused, number, lane, link-kind, mark-at, near, far}
 use Rattle.protocol.specs.Calls.{Call, open-link, issue, retire, pay, send, receive, ack, timeout, tick, bar, unbar, home, refusals, outcome, step, with-bal, ended, mark-written, no-packet, no-more-standing, packet-place, packet-at, arrival-mark, refunded, refund-refused, sent-packet}
 use Rattle.protocol.specs.Laws.{world}
 use Rattle.protocol.proofs.Homes.{Leads, leads-back, lane-of-end, back-in}
 use Rattle.protocol.proofs.Good.{Registers, Blank, Names, Idle, Used, idle-put, used-user, used-escrow, Sound, Key, no-key, key, Numbered, Good, blank-put, grown, grown-number, blank-grown, traced-grown, sound-grown}
 use Rattle.protocol.proofs.Grow.{wired-push, idle-links, lowest-is-unused, traced-links, sound-links, on-lane-keys, numbered-push, numbered-mark, keys-ended, sound-ended}
 use Rattle.protocol.proofs.Views.{Clear, step-by, open-facts, issue-facts, retire-facts, pay-facts, send-facts, Stands, receive-facts, ack-facts, timeout-facts}
-use Rattle.protocol.proofs.Moves.{near, far, homeward, outward, Homeward, arrival-by, refund-by, sent-by}
+use Rattle.protocol.proofs.Moves.{homeward, outward, Homeward, arrival-by, refund-by, sent-by}
 
+-- a world as it is made
 pub good-made : (l : Ledger) (bs : Bool → Book) → Good (made l bs)
 good-made l bs =
     record {
@@ -36,11 +37,13 @@ good-made l bs =
 pub good-bal : (w : World) (b : Balances) → Good w → Blank (w .register) b → Idle (w .links) b → Good (with-bal w b)
 good-bal w b g h i = record { blank = h; idle = i; wired = g .wired; traced = g .traced; sound = g .sound; numbered = g .numbered }
 
+-- a move under a number that is given out
 blank-moved :
     (reg : Registers) (b : Balances) (c a a′ d n : ℕ) → d < length (reg c) → Blank reg b → Blank reg (moved b c a a′ d n)
 blank-moved reg b c a a′ d n l h =
     blank-put reg (debited b c a d n) c a′ d (debited b c a d n c a′ d + n) l (blank-put reg b c a d (b c a d - n) l h)
 
+-- a move between accounts that are used
 idle-moved :
     (ls : List Link) (b : Balances) (c a a′ d n : ℕ) → Used ls c a → Used ls c a′ → Idle ls b → Idle ls (moved b c a a′ d n)
 idle-moved ls b c a a′ d n u v h =
@@ -59,6 +62,7 @@ leads-near w p g s =
     let d = place (same-denom (p .denom)) (w .register c) in
     subst (λ (e : Denom). Leads (w .links) (e .hops) c) (s .named .1) (g .traced c d (s .named .0))
 
+-- and from the far end, behind its channel
 pub leads-behind :
     (w : World) (p : Packet) → Good w → Sound (w .links) (w .register) p →
     Leads (w .links) (behind (far w p .channel) (p .denom) .hops) (far w p .chain)
@@ -68,6 +72,7 @@ leads-behind w p g s =
     let j = lane-of-end (w .links) (g .wired .apart) (back (p .lane)) b in
     (omega (arith, j, b), subst (λ (x : End). Leads (w .links) (p .denom .hops) (x .chain)) (sym e) (leads-near w p g s))
 
+-- a mark under a packet's key
 pub good-mark :
     (w : World) (q i s m : ℕ) → q < length (w .packets) → key (getD (w .packets) q no-packet) ≡ (i, s) → Good w →
     Good (mark-written w i s m)
@@ -83,6 +88,7 @@ good-mark w q i s m l e g =
           (getD-map key (w .packets) q no-packet no-key l ∙ e) (g .numbered);
     }
 
+-- a packet that ends
 pub good-ended : (w : World) (q : ℕ) → q < length (w .packets) → Good w → Good (ended w q)
 good-ended w q l g =
     record {
@@ -97,6 +103,7 @@ good-ended w q l g =
       numbered = subst (λ (ks : List Key). Numbered ks (w .books)) (sym (keys-ended (w .packets) q l)) (g .numbered);
     }
 
+-- a denomination enrolled, and balances changed
 pub good-enrolled :
     (w : World) (c : ℕ) (e : Denom) (b : Balances) → Leads (w .links) (e .hops) c → Good w → Blank (grown (w .register) c e) b → Idle (w .links) b →
     Good
@@ -118,12 +125,14 @@ near-used w p g s =
     used-escrow (w .links) (near w p .chain) (near w p .channel)
     (omega (arith, lane-of-end (w .links) (g .wired .apart) (p .lane) (s .lane-in), s .lane-in))
 
+-- the far end too
 pub far-used : (w : World) (p : Packet) → Good w → Sound (w .links) (w .register) p → Used (w .links) (far w p .chain) (escrow-account (far w p .channel))
 far-used w p g s =
     let b = back-in (w .links) (g .wired .apart) (p .lane) (s .lane-in) in
     used-escrow (w .links) (far w p .chain) (far w p .channel)
     (omega (arith, lane-of-end (w .links) (g .wired .apart) (back (p .lane)) b, b))
 
+-- a packet that comes home
 pub good-homeward : (w : World) (p : Packet) → Good w → Sound (w .links) (w .register) p → Homeward w p → Good (homeward w p)
 good-homeward w p g s h =
     good-bal w _ g
@@ -131,6 +140,7 @@ good-homeward w p g s h =
     (idle-moved (w .links) (w .ledger .balance) (far w p .chain) (escrow-account (far w p .channel)) (p .receiver) (number w (far w p .chain) (stripped (p .denom))) (p .amount)
     (far-used w p g s) (used-user (w .links) (far w p .chain) (p .receiver) (s .receiver-in)) (g .idle))
 
+-- a packet that goes out
 pub good-outward : (w : World) (p : Packet) → Good w → Sound (w .links) (w .register) p → Good (outward w p)
 good-outward w p g s =
     let c = far w p .chain in
@@ -142,6 +152,7 @@ good-outward w p g s =
     (idle-put (w .links) (w .ledger .balance) c (p .receiver) d (w .ledger .balance c (p .receiver) d + p .amount)
     (used-user (w .links) c (p .receiver) (s .receiver-in)) (g .idle))
 
+-- a refund
 pub good-refunded :
     (w : World) (p : Packet) → Good w → Sound (w .links) (w .register) p → refund-refused w p ≡ false → Good (refunded w p)
 good-refunded w p g s r =
@@ -153,6 +164,7 @@ good-refunded w p g s r =
     (λ _ _. good-bal w _ g (blank-moved (w .register) (w .ledger .balance) c (escrow-account (near w p .channel)) (p .sender) d (p .amount) (s .named .0) (g .blank))
     (idle-moved (w .links) (w .ledger .balance) c (escrow-account (near w p .channel)) (p .sender) d (p .amount) (near-used w p g s) (used-user (w .links) c (p .sender) (s .sender-in)) (g .idle)))
 
+-- every call
 pub good-outcome : (w : World) (c : Call) → Good w → Clear (refusals w c) → Good (outcome w c .0)
 good-outcome w (open-link a b k) g h =
     let f = open-facts w a b k h in
@@ -233,10 +245,7 @@ good-outcome w (receive l d s) g h =
     (λ _ hm. good-mark (homeward w p) q i s (arrival-mark w p) (f .0 .place-in) (f .0 .key-is) (good-homeward w p g so hm))
     (λ _ _. good-mark (outward w p) q i s (arrival-mark w p) (f .0 .place-in) (f .0 .key-is) (good-outward w p g so))
 good-outcome w (ack l d s) g h =
-    let f = ack-facts w l d s h in
-    let i = lane l d in
-    let p = packet-at w i s in
-    go (is-one (mark-at w i s)) (f .2)
+    go (is-one (mark-at w (lane l d) s)) (ack-facts w l d s h .2)
   where
     go :
         (b : Bool) → (not b && refund-refused w (packet-at w (lane l d) s)) ≡ false →
@@ -259,6 +268,7 @@ good-outcome w (unbar c u) g h =
     record { idle = g .idle; blank = g .blank; wired = g .wired; traced = g .traced; sound = g .sound; numbered = g .numbered }
 good-outcome w (home c e) g h = g
 
+-- accepted or refused
 pub good-step : (w : World) (c : Call) → Good w → Good (step w c .0)
 good-step w c g = step-by w c (λ r. Good (r .0)) (λ _. g) (good-outcome w c g)
 

@@ -14,6 +14,7 @@ use Rattle.protocol.proofs.Bools.{bool-same, bool-false}
 use Rattle.protocol.proofs.Places.{same-denom-true, same-denom-refl}
 use Rattle.protocol.proofs.Homes.{Apart, back-back, back-in}
 
+-- ends with the same chain and channel
 end-path : (e f : End) → e .chain ≡ f .chain → e .channel ≡ f .channel → e ≡ f
 end-path e f p q = λ i. record { chain = p i; channel = q i }
 
@@ -27,6 +28,7 @@ came-is k e h = go (e .hops) h
     go [] f = absurd (both-ways false refl f)
     go (x ∷ xs) f = ap (λ y. record { hops = y ∷ xs; symbol = e .symbol }) (eqb-true x k f)
 
+-- what stands behind one channel stands behind no other
 behind-channel : (j k : ℕ) (e f : Denom) → behind j e ≡ behind k f → j ≡ k
 behind-channel j k e f p = ap (λ (x : Denom). head (x .hops)) p
   where
@@ -34,15 +36,18 @@ behind-channel j k e f p = ap (λ (x : Denom). head (x .hops)) p
     head [] = 0
     head (x ∷ xs) = x
 
+-- and only one denomination stands behind it
 behind-denom : (j k : ℕ) (e f : Denom) → behind j e ≡ behind k f → e ≡ f
 behind-denom j k e f p = ap stripped p
 
 -- i₀ is the lane of the law and e₀ its denomination; i is a packet's lane and f its denomination
 module _ (ls : List Link) (apart : Apart ls) (i₀ : ℕ) (in₀ : i₀ < length (ends ls)) (e₀ : Denom)
     (not-back : came-by (from-end ls i₀ .channel) e₀ ≡ false) (i : ℕ) (in′ : i < length (ends ls)) (f : Denom) where
+  -- the voucher of the law
   abbrev voucher : Denom
   voucher = behind (to-end ls i₀ .channel) e₀
 
+  -- a lane out of the law's far end is its lane back
   same-lane : from-end ls i ≡ to-end ls i₀ → i ≡ back i₀
   same-lane e = apart i (back i₀) in′ (back-in ls apart i₀ in₀) e
 
@@ -111,10 +116,12 @@ module _ (ls : List Link) (apart : Apart ls) (i₀ : ℕ) (in₀ : i₀ < length
       (eq-eqb (escrow-account (from-end ls i₀ .channel)) (escrow-account (from-end ls i .channel)) (ap (λ z. escrow-account (from-end ls z .channel)) (sym x))))
       (subst (λ (g : Denom). same-denom e₀ g ≡ true) (sym y) (same-denom-refl e₀)))
 
+  -- a lane to the law's far end is its lane
   same-back : to-end ls i ≡ to-end ls i₀ → i ≡ i₀
   same-back e =
       sym (back-back i) ∙ ap back (apart (back i) (back i₀) (back-in ls apart i in′) (back-in ls apart i₀ in₀) e) ∙ back-back i₀
 
+  -- a lane to its near end is its lane back
   other-back : to-end ls i ≡ from-end ls i₀ → i ≡ back i₀
   other-back e = sym (back-back i) ∙ ap back (apart (back i) i₀ (back-in ls apart i in′) in₀ e)
 

@@ -5,6 +5,7 @@ pub mod Places
 pub mod Homes
 pub mod Good
 pub mod Grow
+pub mod Marking
 pub mod Amounts
 pub mod Views
 pub mod Moves
@@ -15,5 +16,6 @@ pub mod Escrow
 pub mod Backing
 pub mod Supply
 pub mod Events
-pub mod Whole
+pub mod Unlocked
 pub mod Counts
+pub mod Whole

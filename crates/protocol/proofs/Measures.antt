@@ -16,19 +16,23 @@ use Rattle.protocol.proofs.Sums.{sum-same, sum-at}
 abbrev pub Weight : Type 0
 Weight = ℕ → ℕ → ℕ → Bool
 
+-- where one balance changes to x, the total changes by as much if that balance counts
 abbrev pub Measure : (Balances → ℕ) → Weight → Type 0
 Measure m wt =
     (b : Balances) (c a d x : ℕ) → m (put b c a d x) + gate (wt c a d) (b c a d) ≡ m b + gate (wt c a d) x
 
 -- the three operations, at any measure
 module _ (m : Balances → ℕ) (wt : Weight) (ok : Measure m wt) (b : Balances) (c a d n : ℕ) where
+  -- a sum counts or not as a whole
   gate-add : (t : Bool) (x y : ℕ) → gate t (x + y) ≡ gate t x + gate t y
   gate-add true x y = refl
   gate-add false x y = refl
 
+  -- a credit adds where it counts
   pub credit-moves : m (credited b c a d n) ≡ m b + gate (wt c a d) n
   credit-moves = omega (arith, ok b c a d (b c a d + n), gate-add (wt c a d) (b c a d) n)
 
+  -- a debit takes away where it counts
   pub debit-moves : n ≤ b c a d → m (debited b c a d n) + gate (wt c a d) n ≡ m b
   debit-moves h =
       let e : b c a d - n + n ≡ b c a d = omega arith in
@@ -36,6 +40,7 @@ module _ (m : Balances → ℕ) (wt : Weight) (ok : Measure m wt) (b : Balances)
       ap (gate (wt c a d)) (sym e) ∙ gate-add (wt c a d) (b c a d - n) n in
       omega (arith, ok b c a d (b c a d - n))
 
+-- a move does both
 pub move-moves :
     (m : Balances → ℕ) (wt : Weight) → Measure m wt → (b : Balances) (c a a′ d n : ℕ) → n ≤ b c a d →
     m (moved b c a a′ d n) + gate (wt c a d) n ≡ m b + gate (wt c a′ d) n
@@ -44,6 +49,7 @@ move-moves m wt ok b c a a′ d n h =
 
 -- Measures: one balance, a sum of measures, a measure that counts or not.
 
+-- a single balance is a measure
 pub one-balance : (c₀ a₀ d₀ : ℕ) → Measure (λ b. b c₀ a₀ d₀) (λ c a d. eqb c₀ c && eqb a₀ a && eqb d₀ d)
 one-balance c₀ a₀ d₀ b c a d x = go (eqb c₀ c) (eqb a₀ a) (eqb d₀ d) (eqb-true c₀ c) (eqb-true a₀ a) (eqb-true d₀ d)
   where
@@ -57,22 +63,22 @@ one-balance c₀ a₀ d₀ b c a d x = go (eqb c₀ c) (eqb a₀ a) (eqb d₀ d)
     go true false r e f g = refl
     go false q r e f g = refl
 
+-- weights that agree
 pub reweigh : (m : Balances → ℕ) (v w : Weight) → ((c a d : ℕ) → v c a d ≡ w c a d) → Measure m v → Measure m w
 reweigh m v w same ok b c a d x = rw (same c a d) at (ok b c a d x)
 
+-- a measure that counts or not
 pub gated : (t : Bool) (m : Balances → ℕ) (w : Weight) → Measure m w → Measure (λ b. gate t (m b)) (λ c a d. t && w c a d)
 gated true m w ok b c a d x = ok b c a d x
 gated false m w ok b c a d x = refl
 
+-- a sum of measures, each of its own part of the balances
 pub summed :
     (n : ℕ) (m : ℕ → Balances → ℕ) (key : ℕ → ℕ → ℕ → ℕ) (w : ℕ → Weight) →
     ((k : ℕ) → Measure (m k) (λ c a d. eqb k (key c a d) && w k c a d)) →
     Measure (λ b. sum-below n (λ k. m k b)) (λ c a d. ltb (key c a d) n && w (key c a d) c a d)
 summed n m key w ok b c a d x = ⊎-elim inside outside (cases-lt (key c a d) n)
   where
-    k₀ : ℕ
-    k₀ = key c a d
-
     Goal : Type 0
     Goal =
         sum-below n (λ k. m k (put b c a d x)) + gate (ltb (key c a d) n && w (key c a d) c a d) (b c a d) ≡

@@ -12,6 +12,7 @@ use Rattle.denom.specs.Denomination.{Token, same-token, same-list, Denom, same-
 use Rattle.protocol.specs.World.{End, same-end}
 
 module _ {X : Type 0} (p : X → Bool) where
+  -- a place is within the list, or its length
   pub place-le : (xs : List X) → place p xs ≤ length xs
   place-le [] = omega arith
   place-le (x ∷ xs) = go (p x) (place-le xs)
@@ -20,6 +21,7 @@ module _ {X : Type 0} (p : X → Bool) where
       go true h = omega arith
       go false h = omega arith
 
+  -- what stands at the place passes
   pub place-hit : (xs : List X) (d : X) → place p xs < length xs → p (getD xs (place p xs) d) ≡ true
   place-hit [] d h = absurd (omega arith)
   place-hit (x ∷ xs) d h = go (p x) refl h (place-hit xs d)
@@ -31,6 +33,7 @@ module _ {X : Type 0} (p : X → Bool) where
       go true e l r = e
       go false e l r = r (omega arith)
 
+  -- nothing that passes stands before it
   pub place-first : (xs : List X) (i : ℕ) (d : X) → i < length xs → p (getD xs i d) ≡ true → place p xs ≤ i
   place-first [] i d l h = absurd (omega arith)
   place-first (x ∷ xs) zero d l h = rw h (omega arith)
@@ -40,6 +43,7 @@ module _ {X : Type 0} (p : X → Bool) where
       go true r = omega arith
       go false r = omega arith
 
+  -- what was found stays where it was
   pub place-append : (xs ys : List X) → place p xs < length xs → place p (xs ++ ys) ≡ place p xs
   place-append [] ys h = absurd (omega arith)
   place-append (x ∷ xs) ys h = go (p x) h (place-append xs ys)
@@ -51,6 +55,7 @@ module _ {X : Type 0} (p : X → Bool) where
       go true l r = refl
       go false l r = ap suc (r (omega arith))
 
+  -- what was not found is looked for behind
   pub place-after : (xs ys : List X) → length xs ≤ place p xs → place p (xs ++ ys) ≡ length xs + place p ys
   place-after [] ys h = omega arith
   place-after (x ∷ xs) ys h = go (p x) h (place-after xs ys)
@@ -64,6 +69,7 @@ module _ {X : Type 0} (p : X → Bool) where
 
 -- sameness of keys is equality
 
+-- same lists are equal
 pub same-list-true : (xs ys : List ℕ) → same-list xs ys ≡ true → xs ≡ ys
 same-list-true [] [] h = refl
 same-list-true [] (y ∷ ys) h = absurd (both-ways false refl h)
@@ -72,10 +78,12 @@ same-list-true (x ∷ xs) (y ∷ ys) h =
     let b = and-parts (eqb x y) (same-list xs ys) h in
     ap₂ _∷_ (eqb-true x y (b .0)) (same-list-true xs ys (b .1))
 
+-- a list is the same as itself
 pub same-list-refl : (xs : List ℕ) → same-list xs xs ≡ true
 same-list-refl [] = refl
 same-list-refl (x ∷ xs) = and-from (eqb x x) (same-list xs xs) (eq-eqb x x refl) (same-list-refl xs)
 
+-- same denominations are equal
 pub same-denom-true : (e f : Denom) → same-denom e f ≡ true → e ≡ f
 same-denom-true e f h =
     let b = and-parts (same-list (e .hops) (f .hops)) (same-list (e .symbol) (f .symbol)) h in
@@ -83,10 +91,12 @@ same-denom-true e f h =
     let q = same-list-true (e .symbol) (f .symbol) (b .1) in
     λ i. record { hops = p i; symbol = q i }
 
+-- a denomination is the same as itself
 pub same-denom-refl : (e : Denom) → same-denom e e ≡ true
 same-denom-refl e =
     and-from (same-list (e .hops) (e .hops)) (same-list (e .symbol) (e .symbol)) (same-list-refl (e .hops)) (same-list-refl (e .symbol))
 
+-- same ends are equal
 pub same-end-true : (e f : End) → same-end e f ≡ true → e ≡ f
 same-end-true e f h =
     let b = and-parts (eqb (e .chain) (f .chain)) (eqb (e .channel) (f .channel)) h in
@@ -94,10 +104,12 @@ same-end-true e f h =
     let q = eqb-true (e .channel) (f .channel) (b .1) in
     λ i. record { chain = p i; channel = q i }
 
+-- an end is the same as itself
 pub same-end-refl : (e : End) → same-end e e ≡ true
 same-end-refl e =
     and-from (eqb (e .chain) (e .chain)) (eqb (e .channel) (e .channel)) (eq-eqb (e .chain) (e .chain) refl) (eq-eqb (e .channel) (e .channel) refl)
 
+-- a token is the same as itself
 pub same-token-refl : (t : Token) → same-token t t ≡ true
 same-token-refl t =
     and-from (eqb (t .chain) (t .chain)) (same-list (t .symbol) (t .symbol)) (eq-eqb (t .chain) (t .chain) refl) (same-list-refl (t .symbol))

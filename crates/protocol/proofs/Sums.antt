@@ -9,14 +9,17 @@ use lib.ListN.{length, getD, set}
 use Rattle.std.proofs.shelf.Tests.{cases-eq}
 use Rattle.sums.specs.Sums.{sum-below, total, gate}
 
+-- the empty sum
 pub sum-none : (f : ℕ → ℕ) → sum-below 0 f ≡ 0
 unfolding sum-below
 sum-none f = refl
 
+-- one part more
 pub sum-more : (n : ℕ) (f : ℕ → ℕ) → sum-below (suc n) f ≡ sum-below n f + f n
 unfolding sum-below
 sum-more n f = refl
 
+-- sums with the same parts
 pub sum-same : (n : ℕ) (f g : ℕ → ℕ) → ((k : ℕ) → k < n → f k ≡ g k) → sum-below n f ≡ sum-below n g
 sum-same zero f g h = sum-none f ∙ sym (sum-none g)
 sum-same (suc n) f g h =
@@ -40,6 +43,7 @@ sum-at (suc n) f g k l h = ⊎-elim here (λ ne. there ne (sum-at n f g k (omega
         sum-below (suc n) f + g k ≡ sum-below (suc n) g + f k
     there ne r = omega (arith, h n ne, sum-more n f, sum-more n g)
 
+-- a sum of nothings
 pub sum-zero : (n : ℕ) (f : ℕ → ℕ) → ((k : ℕ) → f k ≡ 0) → sum-below n f ≡ 0
 sum-zero zero f h = sum-none f
 sum-zero (suc n) f h = omega (arith, sum-zero n f h, h n, sum-more n f)
@@ -63,10 +67,12 @@ sum-part (suc n) f k l =
     (λ ne. omega (arith, sum-part n f k (omega arith), sum-more n f))
     (cases-eq k n)
 
+-- a row more
 pub total-push : {X : Type 0} (f : X → ℕ) (xs : List X) (y : X) → total f (xs ++ y ∷ []) ≡ total f xs + f y
 total-push f [] y = omega arith
 total-push f (x ∷ xs) y = omega (arith, total-push f xs y)
 
+-- rows worth the same
 pub total-same :
     {X : Type 0} (f g : X → ℕ) (xs : List X) (d : X) →
     ((j : ℕ) → j < length xs → f (getD xs j d) ≡ g (getD xs j d)) → total f xs ≡ total g xs
@@ -88,6 +94,7 @@ total-at f g (x ∷ xs) (suc q) y d l h =
     let r = total-at f g xs q y d (omega arith) (λ j m ne. h (suc j) (omega arith) (omega arith)) in
     omega (arith, h 0 (omega arith) (omega arith))
 
+-- nothing, counted or not
 pub gate-zero : (b : Bool) → gate b 0 ≡ 0
 gate-zero true = refl
 gate-zero false = refl

@@ -13,7 +13,7 @@ use Rattle.denom.specs.Denomination.{Denom, Token, same-list, same-denom, same-
 use Rattle.protocol.specs.House.{chains-most, channels-most, escrow-account}
 use Rattle.protocol.specs.Ledger.{Ledger, users-hold}
 use Rattle.protocol.specs.Book.{Book, is-one}
-use Rattle.protocol.specs.World.{End, Packet, World, made, lane, number, back, home-of, held, supply-of, mark-at, lane-out}
+use Rattle.protocol.specs.World.{End, Packet, World, made, lane, number, back, home-of, held, supply-of, mark-at, lane-out, near, far}
 use Rattle.protocol.specs.Calls.{Call, open-link, issue, retire, pay, send, receive, ack, timeout, tick, bar, unbar, home, Answer, done, says, refusals, outcome, with-bal, recorded, ended, mark-written, packet-place, packet-at, arrival-mark, refunded, refund-refused, sent-packet, next-sequence}
 use Rattle.protocol.specs.Laws.{world, accepted, issues, retires, issued, retired}
 use Rattle.protocol.proofs.Bools.{bool-same, and-false}
@@ -22,7 +22,7 @@ use Rattle.protocol.proofs.Places.{same-list-true, same-list-refl}
 use Rattle.protocol.proofs.Homes.{back-in}
 use Rattle.protocol.proofs.Good.{Sound, Good, grown, grown-number}
 use Rattle.protocol.proofs.Views.{Clear, step-by, issue-facts, retire-facts, pay-facts, send-facts, receive-facts, ack-facts, timeout-facts}
-use Rattle.protocol.proofs.Moves.{near, far, homeward, outward, Homeward, arrival-by, refund-by, sent-by}
+use Rattle.protocol.proofs.Moves.{homeward, outward, Homeward, arrival-by, refund-by, sent-by}
 use Rattle.protocol.proofs.Kept.{good-world, sound-at}
 use Rattle.protocol.proofs.Tokens.{amount-of, tokens-conserved}
 use Rattle.protocol.proofs.Escrow.{Placed, sup-credit, sup-debit, sup-move, sup-grown, placed-grown}
@@ -31,6 +31,7 @@ use Rattle.protocol.proofs.Escrow.{Placed, sup-credit, sup-debit, sup-move, su
 abbrev pub supplied : World → Token → ℕ
 supplied w t = supply-of w (t .chain) (hopless (t .symbol))
 
+-- the statement for one call
 abbrev Supplies-by : World → Token → Call → World × Answer → Type 0
 Supplies-by w t c r =
     supplied (r .0) t + gate (accepted (r .1)) (retires t c) ≡ supplied w t + gate (accepted (r .1)) (issues t c)
@@ -59,6 +60,7 @@ came-not-hopless k s e h = go (e .hops) h
     go (x ∷ xs) f = refl
 
 module _ (w : World) (t : Token) (g : Good w) where
+  -- a registered denomination has its place for a number
   placed : (c : ℕ) (f : Denom) → number w c f < length (w .register c) → Placed (w .register) c (number w c f) f
   placed c f l = record { is = refl; in′ = l }
 
@@ -96,6 +98,7 @@ module _ (w : World) (t : Token) (g : Good w) where
       sup-move (w .register) c (number w c e) e (placed c e (h .named .0)) (t .chain) (hopless (t .symbol)) (w .ledger .balance) (p .amount)
       (escrow-account (far w p .channel)) (p .receiver) (omega (arith, j-in)) (omega (arith, s .receiver-in)) (h .enough)
 
+  -- outward, since a voucher has hops
   supplied-outward : (p : Packet) → Sound (w .links) (w .register) p → supplied (outward w p) t ≡ supplied w t
   supplied-outward p s =
       let b = w .ledger .balance in
@@ -109,6 +112,7 @@ module _ (w : World) (t : Token) (g : Good w) where
         other-denom c (p .amount) e refl,
       )
 
+  -- every call
   supplied-outcome : (c : Call) → Clear (refusals w c) → Supplies-by w t c (outcome w c)
   supplied-outcome (open-link a b k) h = refl
   supplied-outcome (issue c u s n) h =

@@ -14,7 +14,7 @@ use Rattle.denom.specs.Denomination.{Denom, Token, hopless, behind, stripped, s
 use Rattle.protocol.specs.House.{chains-most, users, escrow-account}
 use Rattle.protocol.specs.Ledger.{Balances, credited, debited, moved, Ledger}
 use Rattle.protocol.specs.Book.{is-one, Book}
-use Rattle.protocol.specs.World.{End, Link, Packet, World, back, end-at, lane-out, lowest-unused, number, mark-of, is-open, home-of, home-by, held, open-packets, of-token, lane, no-link, mark-at}
+use Rattle.protocol.specs.World.{End, Link, Packet, World, back, end-at, lane-out, lowest-unused, number, mark-of, is-open, home-of, home-by, held, open-packets, of-token, lane, no-link, mark-at, near, far}
 use Rattle.protocol.specs.Calls.{Answer, done, says, home-is, Call, open-link, issue, retire, pay, send, receive, ack, timeout, tick, bar, unbar, home, refusals, outcome, step, with-bal, with-links, recorded, ended, mark-written, no-packet, packet-place, packet-at, arrival-mark, refunded, refund-refused, sent-packet, next-sequence}
 use Rattle.protocol.specs.Laws.{there-is, world, accepted, issues, retires, retired, issued}
 use Rattle.protocol.proofs.Sums.{total-same}
@@ -24,22 +24,25 @@ use Rattle.protocol.proofs.Good.{Registers, Names, Sound, Good, grown, grown-n
 use Rattle.protocol.proofs.Grow.{on-lane-keys}
 use Rattle.protocol.proofs.Amounts.{Held, held-weight, held-measure, weight-user, weight-escrow, held-grown, held-links, home-stays, open-push, open-ended, open-mark}
 use Rattle.protocol.proofs.Views.{Clear, step-by, issue-facts, retire-facts, pay-facts, send-facts, Stands, marked-at, receive-facts, ack-facts, timeout-facts}
-use Rattle.protocol.proofs.Moves.{near, far, homeward, outward, Homeward, arrival-by, refund-by, sent-by}
+use Rattle.protocol.proofs.Moves.{homeward, outward, Homeward, arrival-by, refund-by, sent-by}
 use Rattle.protocol.proofs.Kept.{good-world, sound-at, leads-near}
 
 -- What users hold, where one balance changes under the number of e on c
 
 module _ (ls : List Link) (reg : Registers) (b : Balances) (t : Token) (c d : ℕ) (e : Denom) (c-in : c < chains-most) (named : Names reg c d e) (n : ℕ) where
+  -- a user is credited
   pub held-credit : (u : ℕ) → u < users → Held ls reg (credited b c u d n) t ≡ Held ls reg b t + gate (same-token (home-of ls c e) t) n
   held-credit u l =
       credit-moves (λ b. Held ls reg b t) (held-weight ls reg t) (held-measure ls reg t) b c u d n ∙
       ap (λ x. Held ls reg b t + gate x n) (weight-user ls reg t c u d e c-in named l)
 
+  -- a user is debited
   pub held-debit : (u : ℕ) → u < users → n ≤ b c u d → Held ls reg (debited b c u d n) t + gate (same-token (home-of ls c e) t) n ≡ Held ls reg b t
   held-debit u l h =
       ap (λ x. Held ls reg (debited b c u d n) t + gate x n) (sym (weight-user ls reg t c u d e c-in named l)) ∙
       debit-moves (λ b. Held ls reg b t) (held-weight ls reg t) (held-measure ls reg t) b c u d n h
 
+  -- a user pays another
   pub held-pay : (u v : ℕ) → u < users → v < users → n ≤ b c u d → Held ls reg (moved b c u v d n) t ≡ Held ls reg b t
   held-pay u v l m h =
       omega (
@@ -49,6 +52,7 @@ module _ (ls : List Link) (reg : Registers) (b : Balances) (t : Token) (c d : �
         ap (λ x. gate x n) (weight-user ls reg t c v d e c-in named m),
       )
 
+  -- a user's amount goes into escrow
   pub held-in : (u k : ℕ) → u < users → n ≤ b c u d → Held ls reg (moved b c u (escrow-account k) d n) t + gate (same-token (home-of ls c e) t) n ≡ Held ls reg b t
   held-in u k l h =
       omega (
@@ -58,6 +62,7 @@ module _ (ls : List Link) (reg : Registers) (b : Balances) (t : Token) (c d : �
         ap (λ x. gate x n) (weight-escrow ls reg t c k d),
       )
 
+  -- an amount goes out of escrow to a user
   pub held-out : (k u : ℕ) → u < users → n ≤ b c (escrow-account k) d → Held ls reg (moved b c (escrow-account k) u d n) t ≡ Held ls reg b t + gate (same-token (home-of ls c e) t) n
   held-out k u l h =
       omega (
@@ -73,6 +78,7 @@ amount-of w t = there-is w (open-packets w) t
 
 -- The statement for one call
 
+-- accepted or not, what there is moves by what the call issues less what it retires
 abbrev Moves-by : World → Token → Call → World × Answer → Type 0
 Moves-by w t c r =
     amount-of (r .0) t + gate (accepted (r .1)) (retires t c) ≡ amount-of w t + gate (accepted (r .1)) (issues t c)
@@ -90,6 +96,7 @@ module _ (w : World) (t : Token) (g : Good w) where
       (λ _ _. held-credit (w .links) (w .register) (w .ledger .balance) t c d (p .denom) c-in (s .named) (p .amount) (p .sender) (s .sender-in))
       (λ _ h. held-out (w .links) (w .register) (w .ledger .balance) t c d (p .denom) c-in (s .named) (p .amount) (near w p .channel) (p .sender) (s .sender-in) h)
 
+  -- what comes home is the receiver's
   held-homeward :
       (p : Packet) → Sound (w .links) (w .register) p → Homeward w p →
       held (homeward w p) t ≡ held w t + gate (of-token w t p) (p .amount)
@@ -100,6 +107,7 @@ module _ (w : World) (t : Token) (g : Good w) where
       held-out (w .links) (w .register) (w .ledger .balance) t c (number w c e) e c-in (h .named) (p .amount) (far w p .channel) (p .receiver) (s .receiver-in) (h .enough) ∙
       ap (λ (y : Token). held w t + gate (same-token y t) (p .amount)) (sym (home-stripped (w .links) (g .wired .apart) (p .lane) (s .lane-in) (p .denom) (h .came)))
 
+  -- what goes out is the receiver's, under a new trace of the same home
   held-outward :
       (p : Packet) → Sound (w .links) (w .register) p →
       held (outward w p) t ≡ held w t + gate (of-token w t p) (p .amount)
@@ -115,6 +123,7 @@ module _ (w : World) (t : Token) (g : Good w) where
       (i s : ℕ) → Stands w i s → is-one (mark-of w (packet-at w i s)) ≡ false → is-open w (packet-at w i s) ≡ true
   open-was i s h m = ap₂ (λ x y. x && not y) (h .standing) m
 
+  -- a refund that ends a packet gives back what was open
   refund-ends :
       (i s : ℕ) → Stands w i s → is-one (mark-of w (packet-at w i s)) ≡ false → refund-refused w (packet-at w i s) ≡ false →
       amount-of (ended (refunded w (packet-at w i s)) (packet-place w i s)) t ≡ amount-of w t
@@ -126,6 +135,7 @@ module _ (w : World) (t : Token) (g : Good w) where
       ap (λ y. gate (y && of-token w t p) (p .amount)) (open-was i s h m) in
       omega (arith, o, x, held-refunded p (sound-at w i s g h) r)
 
+  -- every call
   tokens-outcome : (c : Call) → Clear (refusals w c) → Moves-by w t c (outcome w c)
   tokens-outcome (open-link a b k) h =
       let ls = w .links in
@@ -237,6 +247,7 @@ module _ (w : World) (t : Token) (g : Good w) where
   tokens-outcome (unbar c u) h = refl
   tokens-outcome (home c e) h = refl
 
+  -- accepted or refused
   pub tokens-step : (c : Call) → Moves-by w t c (step w c)
   tokens-step c = step-by w c (Moves-by w t c) (λ _. refl) (tokens-outcome c)
 

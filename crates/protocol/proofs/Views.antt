@@ -26,6 +26,7 @@ abbrev pub Clear : List Refusal → Type 0
 Clear [] = Unit {0}
 Clear ((n when b) ∷ rs) = (b ≡ false) × Clear rs
 
+-- where there is no first that applies, none does
 pub clear-first : (rs : List Refusal) → first rs ≡ None → Clear rs
 clear-first [] h = tt
 clear-first ((n when b) ∷ rs) h = go b h (clear-first rs)
@@ -44,19 +45,23 @@ step-by w c P stays comes = go (first (refusals w c)) (clear-first (refusals w c
     go None f = comes (f refl)
     go (Some n) f = stays n
 
+-- a served chain is one of the world's
 served-in : (w : World) (c : ℕ) → not (served w c) ≡ false → c < chains-most
 served-in w c h =
     ltb-true c chains-most (and-parts (ltb c (w .ledger .chains)) (ltb c chains-most) (not-false (served w c) h) .1)
 
+-- a user is not above 15
 user-in : (u : ℕ) → leb users u ≡ false → u < users
 user-in u h = leb-false users u h
 
+-- no mark is none
 pub is-none : (o : Option ℕ) → isSome o ≡ false → o ≡ None
 is-none None h = refl
 is-none (Some m) h = absurd (both-ways true h refl)
 
 -- the calls
 
+-- two chains with a channel left each
 pub record Opens (w : World) (a b : ℕ) : Type 0 where
   pub a-in : a < chains-most
   pub b-in : b < chains-most
@@ -64,6 +69,7 @@ pub record Opens (w : World) (a b : ℕ) : Type 0 where
   pub a-free : lowest-unused (w .links) a < channels-most
   pub b-free : lowest-unused (w .links) b < channels-most
 
+-- open
 pub open-facts : (w : World) (a b : ℕ) (k : Bool) → Clear (refusals w (open-link a b k)) → Opens w a b
 open-facts w a b k h =
     let s = or-parts (not (served w a)) (not (served w b)) (h .0) in
@@ -76,10 +82,12 @@ open-facts w a b k h =
       b-free = leb-false channels-most (lowest-unused (w .links) b) (f .1);
     }
 
+-- a chain and a user
 pub record Issues (c u : ℕ) : Type 0 where
   pub c-in : c < chains-most
   pub u-in : u < users
 
+-- issue
 pub issue-facts : (w : World) (c u : ℕ) (s : List ℕ) (n : ℕ) → Clear (refusals w (issue c u s n)) → Issues c u
 issue-facts w c u s n h = record { c-in = served-in w c (h .1 .0); u-in = user-in u (h .1 .1 .0) }
 
@@ -90,6 +98,7 @@ pub record Has (w : World) (c u : ℕ) (e : Denom) (n : ℕ) : Type 0 where
   pub named : Names (w .register) c (number w c e) e
   pub enough : n ≤ w .ledger .balance c u (number w c e)
 
+-- from the refusals that retire, pay and send share
 has-from :
     (w : World) (c u : ℕ) (e : Denom) (n : ℕ) → not (served w c) ≡ false → leb users u ≡ false →
     not (registered w c e) ≡ false → too-small (w .ledger .balance) c u (number w c e) n ≡ false → Has w c u e n
@@ -101,10 +110,12 @@ has-from w c u e n s l r b =
       enough = ltb-false (w .ledger .balance c u (number w c e)) n b;
     }
 
+-- a list of no length
 no-hops : (hs : List ℕ) → ltb 0 (length hs) ≡ false → hs ≡ []
 no-hops [] h = refl
 no-hops (k ∷ ks) h = absurd (omega (arith, ltb-false 0 (suc (length ks)) h))
 
+-- retire: besides, it is hopless
 pub retire-facts :
     (w : World) (c u : ℕ) (e : Denom) (n : ℕ) → Clear (refusals w (retire c u e n)) → Has w c u e n × (e .hops ≡ [])
 retire-facts w c u e n h = (
@@ -112,18 +123,21 @@ retire-facts w c u e n h = (
   no-hops (e .hops) (h .1 .1 .1 .1 .0),
 )
 
+-- pay: besides, the payee is a user
 pub pay-facts :
     (w : World) (c u v : ℕ) (e : Denom) (n : ℕ) → Clear (refusals w (pay c u v e n)) → Has w c u e n × (v < users)
 pay-facts w c u v e n h =
     let a = or-parts (leb users u) (leb users v) (h .1 .0) in
     (has-from w c u e n (h .0) (a .0) (h .1 .1 .1 .0) (h .1 .1 .1 .1 .1 .0), user-in v (a .1))
 
+-- the sender has it, and the channel leads out by a lane
 pub record Sends (w : World) (c k u v : ℕ) (e : Denom) (n : ℕ) : Type 0 where
   pub has : Has w c u e n
   pub v-in : v < users
   pub lane-in : lane-out (w .links) c k < length (ends (w .links))
   pub end-is : from-end (w .links) (lane-out (w .links) c k) ≡ end-at c k
 
+-- send
 pub send-facts :
     (w : World) (c k u v : ℕ) (e : Denom) (n t : ℕ) → Clear (refusals w (send c k u v e n t)) → Sends w c k u v e n
 send-facts w c k u v e n t h =
@@ -152,6 +166,7 @@ pub record Stands (w : World) (i s : ℕ) : Type 0 where
 pub marked-at : (w : World) (i s : ℕ) → Stands w i s → mark-of w (packet-at w i s) ≡ mark-at w i s
 marked-at w i s h = ap (λ (k : Key). mark-at w (k .0) (k .1)) (h .key-is)
 
+-- from the refusals that receive, ack and timeout share
 stands-from :
     (w : World) (l d s : ℕ) → not (opened w l d) ≡ false →
     not (ltb (packet-place w (lane l d) s) (length (w .packets))) ≡ false →
@@ -171,6 +186,7 @@ stands-from w l d s o h st =
       standing = not-false (packet-at w i s .standing) st;
     }
 
+-- receive: besides, it has no mark
 pub receive-facts :
     (w : World) (l d s : ℕ) → Clear (refusals w (receive l d s)) →
     Stands w (lane l d) s × (book-of w (lane l d) .mark (lane l d) s ≡ None)
@@ -179,6 +195,7 @@ receive-facts w l d s h = (
   is-none (book-of w (lane l d) .mark (lane l d) s) (h .1 .1 .1 .1 .1 .0),
 )
 
+-- ack: besides, it has a mark, and if that is not 1 the refund is not refused
 pub ack-facts :
     (w : World) (l d s : ℕ) → Clear (refusals w (ack l d s)) →
     Stands w (lane l d) s ×
@@ -190,6 +207,7 @@ ack-facts w l d s h = (
   h .1 .1 .1 .1 .1 .0,
 )
 
+-- timeout: besides, it has no mark, and the refund is not refused
 pub timeout-facts :
     (w : World) (l d s : ℕ) → Clear (refusals w (timeout l d s)) →
     Stands w (lane l d) s ×

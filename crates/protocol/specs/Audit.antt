@@ -4,12 +4,13 @@ use mathlib.Core.Bool.{Bool, cond}
 use mathlib.Core.List.{List, [], _∷_, _++_, map}
 use Prim.Native.Nat.{ℕ, _+_}
 use lib.Chars.{codes}
-use lib.Dec.{eqb}
+use lib.Dec.{eqb, leb, ltb}
 use lib.ListN.{length, getD}
 use Rattle.denom.specs.Denomination.{Denom, Token, hopless, behind}
 use Rattle.denom.specs.Text.{denom-text}
 use Rattle.figures.specs.Figures.{figure}
-use Rattle.protocol.specs.House.{escrow-account}
+use Rattle.protocol.specs.House.{escrow-account, line-room}
+use Rattle.protocol.specs.Refusals.{Refusal, _when_}
 use Rattle.protocol.specs.World.{World, lane, back, from-end, to-end, numbers-from, no-denom, supply-of, held, open-packets, on-lane-with, of-token}
 
 -- Figures
@@ -101,3 +102,13 @@ escrow-lines w = gathered (λ L. end-lines w L 0 ++ end-lines w L 1) (numbers-fr
 -- all of them
 abbrev pub audit-lines : World → List (List ℕ)
 audit-lines w = count-line w ∷ (map (token-line w) (w .tokens) ++ escrow-lines w)
+
+-- One line is asked for by its number, and written into a buffer.
+
+-- when it is not written
+abbrev pub line-refusals : World → ℕ → ℕ → List Refusal
+line-refusals w room n = 35 when ltb room line-room ∷ 36 when leb (length (audit-lines w)) n ∷ []
+
+-- line n
+abbrev pub audit-line : World → ℕ → List ℕ
+audit-line w n = getD (audit-lines w) n []

@@ -17,8 +17,9 @@ use Rattle.denom.specs.Text.{is-symbol}
 use Rattle.protocol.specs.House.{most, chains-most, links-most, packets-most, tokens-most, channels-most, denoms-most, users, escrow-account, hops-most}
 use Rattle.protocol.specs.Refusals.{Refusal, _when_, first}
 use Rattle.protocol.specs.Ledger.{Ledger, Balances, with-balances, credited, debited, moved, is-barred, too-small, too-large, credit-refusals, move-refusals, bar-set}
-use Rattle.protocol.specs.Book.{Book, marked, is-one, lower-marked, taken}
-use Rattle.protocol.specs.World.{Link, Packet, World, lane, from-end, to-end, end-at, lane-out, in-use, lowest-unused, number, registered, link-kind, book-of, mark-at, home-of}
+use Rattle.protocol.specs.declared.marks.Mark.the-variants.{Good, TooManyHops, RegisterFull, LedgerRefused}
+use Rattle.protocol.specs.Book.{Book, mark-number, marked, is-one, lower-marked, taken}
+use Rattle.protocol.specs.World.{Link, Packet, World, lane, near, far, to-end, end-at, lane-out, in-use, lowest-unused, number, registered, link-kind, book-of, mark-at, home-of}
 
 -- The calls, with their arguments in the order in which they are written.
 pub data Call : Type 0 where
@@ -191,42 +192,43 @@ sent-packet w c k u v e n t =
       standing = true;
     }
 
--- the first mark that applies, else 1, good
-abbrev pub mark-or-good : Option ℕ → ℕ
-mark-or-good None = 1
-mark-or-good (Some m) = m
+-- What the receiving chain makes of a packet. One that came in by the near channel goes home without that hop, out of the far
+-- channel's escrow; any other gets the far channel in front, and the receiver is credited.
 
--- The mark that the receiving chain gives a packet that came by channel k of the near end and arrives by channel j of the far
--- one. A chain that does not know what comes home has nothing to move, as if its ledger refused.
+-- Its mark. A chain that does not know what comes home has nothing to move, as if its ledger refused.
 abbrev pub arrival-mark : World → Packet → ℕ
 arrival-mark w p =
-    let k = from-end (w .links) (p .lane) .channel in
-    let c = to-end (w .links) (p .lane) .chain in
-    let j = to-end (w .links) (p .lane) .channel in
-    let kept = stripped (p .denom) in
+    let c = far w p .chain in
+    let j = far w p .channel in
+    let freed = stripped (p .denom) in
     let voucher = behind j (p .denom) in
     cond
-    (came-by k (p .denom))
-    (mark-or-good (first
-    (4 when (not (registered w c kept) || refused (move-refusals (w .ledger) c (escrow-account j) (p .receiver) (number w c kept) (p .amount)))
-    ∷ [])))
-    (mark-or-good (first
-    (2 when leb hops-most (length (p .denom .hops))
-    ∷ 3 when (not (registered w c voucher) && leb denoms-most (length (w .register c)))
-    ∷ 4 when refused (credit-refusals (w .ledger) c (p .receiver) (number w c voucher) (p .amount))
-    ∷ [])))
+    (came-by (near w p .channel) (p .denom))
+    (cond
+    (not (registered w c freed) || refused (move-refusals (w .ledger) c (escrow-account j) (p .receiver) (number w c freed) (p .amount)))
+    (mark-number LedgerRefused)
+    (mark-number Good))
+    (cond
+    (leb hops-most (length (p .denom .hops)))
+    (mark-number TooManyHops)
+    (cond
+    (not (registered w c voucher) && leb denoms-most (length (w .register c)))
+    (mark-number RegisterFull)
+    (cond
+    (refused (credit-refusals (w .ledger) c (p .receiver) (number w c voucher) (p .amount)))
+    (mark-number LedgerRefused)
+    (mark-number Good))))
 
--- the world in which the receiver has the amount, where that mark is 1
+-- the world in which the receiver has the amount, where that mark is good
 abbrev pub delivered : World → Packet → World
 delivered w p =
-    let k = from-end (w .links) (p .lane) .channel in
-    let c = to-end (w .links) (p .lane) .chain in
-    let j = to-end (w .links) (p .lane) .channel in
-    let kept = stripped (p .denom) in
+    let c = far w p .chain in
+    let j = far w p .channel in
+    let freed = stripped (p .denom) in
     let voucher = behind j (p .denom) in
     cond
-    (came-by k (p .denom))
-    (with-bal w (moved (w .ledger .balance) c (escrow-account j) (p .receiver) (number w c kept) (p .amount)))
+    (came-by (near w p .channel) (p .denom))
+    (with-bal w (moved (w .ledger .balance) c (escrow-account j) (p .receiver) (number w c freed) (p .amount)))
     (with-bal (enrolled w c voucher) (credited (w .ledger .balance) c (p .receiver) (number w c voucher) (p .amount)))
 
 -- A refund undoes the send: what was burnt is credited, what went into escrow is moved back.
@@ -234,8 +236,8 @@ delivered w p =
 -- whether the ledger refuses it, or the chain does not know the denomination
 abbrev pub refund-refused : World → Packet → Bool
 refund-refused w p =
-    let k = from-end (w .links) (p .lane) .channel in
-    let c = from-end (w .links) (p .lane) .chain in
+    let c = near w p .chain in
+    let k = near w p .channel in
     let d = number w c (p .denom) in
     not (registered w c (p .denom))
     || cond
@@ -246,8 +248,8 @@ refund-refused w p =
 -- the world in which the sender has it back
 abbrev pub refunded : World → Packet → World
 refunded w p =
-    let k = from-end (w .links) (p .lane) .channel in
-    let c = from-end (w .links) (p .lane) .chain in
+    let c = near w p .chain in
+    let k = near w p .channel in
     let d = number w c (p .denom) in
     with-bal
     w

@@ -48,3 +48,7 @@ hops-most = 6
 -- lanes, two for each link
 abbrev pub lanes-most : ℕ
 lanes-most = 32
+
+-- the bytes of buffer that a line of the audit asks for
+abbrev pub line-room : ℕ
+line-room = 256

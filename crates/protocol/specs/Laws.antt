@@ -1,6 +1,6 @@
 -- Laws of every past of a world: conservation, the supply accounted for, the house's bounds, refusals in order.
 use mathlib.Core.Path.{_≡_}
-use mathlib.Core.Logic.{_↔_}
+use mathlib.Core.Logic.{_↔_, _≢_}
 use mathlib.Core.Bool.{Bool, true, false, not, _&&_, _||_}
 use mathlib.Core.List.{List, [], _∷_, _++_}
 use Prim.Native.Nat.{ℕ, _+_, _*_, _<_, _≤_}
@@ -14,6 +14,7 @@ use Rattle.protocol.specs.Refusals.{Refusal, _when_}
 use Rattle.protocol.specs.Ledger.{Ledger, Lawful}
 use Rattle.protocol.specs.Book.{Book}
 use Rattle.protocol.specs.World.{Link, Packet, World, made, lane, from-end, to-end, back, ends, escrow, supply-of, open-packets, on-lane-with, of-token, held, lane-out, is-open, no-denom}
+use Rattle.protocol.specs.Audit.{token-supply, token-open, escrow-held, vouchers, escrow-open}
 use Rattle.protocol.specs.Calls.{Call, open-link, issue, retire, pay, send, receive, ack, timeout, tick, bar, unbar, home, Answer, done, says, home-is, no, step, refusals, packet-at, no-packet, token-at}
 
 -- A past is the list of the calls made so far, the latest first, accepted or refused. A world's moment is that after a past.
@@ -253,20 +254,29 @@ pub record Conserved (l : Ledger) (bs : Bool → Book) : Type 0 where
 abbrev pub Conservation : Type 0
 Conservation = (l : Ledger) (bs : Bool → Book) → Conserved l bs
 
--- The supply of a token at home, its hopless denomination with the escrow accounts, is accounted for at every moment.
+-- What is issued is accounted for at every moment, and the audit's lines show it.
 pub record Accounted (l : Ledger) (bs : Bool → Book) : Type 0 where
-  -- by what users hold and the packets that are open by what has happened
+  -- a token's supply at home, of its hopless denomination with the escrow accounts, is what there is of the token
   pub supplied :
       (past : List Call) (t : Token) →
       supply-of (world l bs past) (t .chain) (hopless (t .symbol)) ≡
       there-is (world l bs past) (open-after l bs past) t
-  -- the same as an audit tells it, open packets by standing and mark
-  pub audited :
+  -- a token's line, with open packets told by standing and mark: SUPPLY = HELD + OPEN
+  pub token-adds-up :
       (past : List Call) (t : Token) →
-      supply-of (world l bs past) (t .chain) (hopless (t .symbol)) ≡
-      there-is (world l bs past) (open-packets (world l bs past)) t
-  -- and so is escrow, as in (a)
-  pub audited-escrow :
+      let w = world l bs past in
+      token-supply w t ≡ held w t + token-open w t
+  -- a line of escrow: ESCROW = VOUCHERS + OPEN
+  pub escrow-adds-up :
+      (past : List Call) (L D d : ℕ) →
+      let w = world l bs past in
+      L < length (w .links) →
+      D ≤ 1 →
+      d < length (w .register (from-end (w .links) (lane L D) .chain)) →
+      escrow-held w L D d ≢ 0 →
+      escrow-held w L D d ≡ vouchers w L D d + escrow-open w L D d
+  -- (a) with open packets told by standing and mark, in any denomination, registered or not
+  pub escrow-backs :
       (past : List Call) (L D : ℕ) (e : Denom) →
       L < length (world l bs past .links) →
       D ≤ 1 →
@@ -284,6 +294,16 @@ ascending-from k ((n when b) ∷ rs) = ltb k n && ascending-from n rs
 -- The refusals of a call stand in ascending order, so that the first that applies is the one checked first.
 abbrev pub Refusals-in-order : Type 0
 Refusals-in-order = (w : World) (c : Call) → ascending-from 0 (refusals w c) ≡ true
+
+-- A packet within the house's bounds.
+pub record Packet-in (w : World) (p : Packet) : Type 0 where
+  pub lane-in : p .lane < length (ends (w .links))
+  pub sequence-least : 1 ≤ p .sequence
+  pub sequence-most : p .sequence ≤ packets-most
+  pub sender-in : p .sender < users
+  pub receiver-in : p .receiver < users
+  pub amount-least : 1 ≤ p .amount
+  pub amount-most : p .amount ≤ most
 
 -- The house's bounds, the ledger's two laws, and registers without repeats.
 pub record Within (w : World) : Type 0 where
@@ -306,11 +326,7 @@ pub record Within (w : World) : Type 0 where
   pub end-in :
       (i : ℕ) → i < length (ends (w .links)) →
       (from-end (w .links) i .chain < chains-most) × (from-end (w .links) i .channel < channels-most)
-  -- every packet: its lane, its users, its amount
-  pub packet-in :
-      (q : ℕ) → q < length (w .packets) →
-      let p = getD (w .packets) q no-packet in
-      (p .lane < length (ends (w .links))) × (p .sender < users) × (p .receiver < users) × (1 ≤ p .amount) × (p .amount ≤ most)
+  pub packet-in : (q : ℕ) → q < length (w .packets) → Packet-in w (getD (w .packets) q no-packet)
 
 abbrev pub Bounded : Type 0
 Bounded = (l : Ledger) (bs : Bool → Book) (past : List Call) → Within (world l bs past)

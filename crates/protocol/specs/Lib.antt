@@ -5,6 +5,6 @@ pub mod Ledger
 pub mod Book
 pub mod World
 pub mod Calls
-pub mod Laws
 pub mod Audit
+pub mod Laws
 pub mod Known

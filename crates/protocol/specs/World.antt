@@ -160,6 +160,14 @@ held w t =
 
 -- Packets
 
+-- the end that a packet was sent from
+abbrev pub near : World → Packet → End
+near w p = from-end (w .links) (p .lane)
+
+-- the end that it goes to
+abbrev pub far : World → Packet → End
+far w p = to-end (w .links) (p .lane)
+
 -- the kind of a lane's link
 abbrev pub link-kind : World → ℕ → Bool
 link-kind w i = getD (w .links) (i / 2) no-link .kind
@@ -190,4 +198,4 @@ on-lane-with i e p = eqb (p .lane) i && same-denom (p .denom) e
 
 -- of this token: the home of its denomination, taken on the sending chain
 abbrev pub of-token : World → Token → Packet → Bool
-of-token w t p = same-token (home-of (w .links) (from-end (w .links) (p .lane) .chain) (p .denom)) t
+of-token w t p = same-token (home-of (w .links) (near w p .chain) (p .denom)) t

@@ -59,14 +59,14 @@ pub enum WorldFault {
 }
 
 /// Why a line of the audit is not written.
-#[derive(Clone, Copy, PartialEq, Eq, Debug)]
+#[derive(Clone, Copy)]
 pub enum AuditFault {
     BufferTooSmall,
     NoSuchLine,
 }
 
 /// Why a line of a script is no call.
-#[derive(Clone, Copy, PartialEq, Eq, Debug)]
+#[derive(Clone, Copy)]
 pub enum ScriptFault {
     ScriptTooLong,
     LineTooLong,
@@ -77,7 +77,7 @@ pub enum ScriptFault {
 }
 
 /// A fault of any layer, with its cause.
-#[derive(Clone, Copy, Debug)]
+#[derive(Clone, Copy)]
 pub enum Fault {
     Script(ScriptFault),
     World(WorldFault),
@@ -85,7 +85,7 @@ pub enum Fault {
 }
 
 /// The layer that answers for a fault.
-#[derive(Clone, Copy, PartialEq, Eq, Debug)]
+#[derive(Clone, Copy, PartialEq, Eq)]
 pub enum Layer {
     Script,
     Book,

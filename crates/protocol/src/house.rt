@@ -1,7 +1,7 @@
 // The counts of the house, for the code of every crate; specs/House.antt has the same for its definitions.
 ghost use mathlib.Core.Path.{_≡_};
 ghost use Prim.Native.Nat.{_<_};
-ghost use Rattle.protocol.specs.House.{accounts, chains-most, channels-most, denoms-most, escrow-account, hops-most, lanes-most, links-most, packets-most, tokens-most, users};
+ghost use Rattle.protocol.specs.House.{accounts, chains-most, channels-most, denoms-most, escrow-account, hops-most, lanes-most, line-room, links-most, packets-most, tokens-most, users};
 
 /// A world's chains are 0 to 7.
 pub const CHAINS: usize = 8;
@@ -23,6 +23,8 @@ pub const ACCOUNTS: usize = USERS + CHANNELS;
 pub const HOPS: usize = 6;
 /// Lanes, two for each link.
 pub const LANES: usize = 2 * LINKS;
+/// The bytes of buffer that a line of the audit asks for.
+pub const LINE_ROOM: usize = 256;
 
 /// The escrow account of a channel.
 pub fn escrow_account(channel: usize) -> usize
@@ -44,4 +46,5 @@ pub fn counts_agree()
     ensures accounts { λ _. do ⌜ (← ⟦ACCOUNTS⟧ .exit) ≡ accounts ⌝ }
     ensures hops { λ _. do ⌜ (← ⟦HOPS⟧ .exit) ≡ hops-most ⌝ }
     ensures lanes { λ _. do ⌜ (← ⟦LANES⟧ .exit) ≡ lanes-most ⌝ }
+    ensures room { λ _. do ⌜ (← ⟦LINE_ROOM⟧ .exit) ≡ line-room ⌝ }
 {}

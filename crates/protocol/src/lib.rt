@@ -23,6 +23,7 @@ pub use house::CHANNELS;
 pub use house::DENOMINATIONS;
 pub use house::HOPS;
 pub use house::LANES;
+pub use house::LINE_ROOM;
 pub use house::LINKS;
 pub use house::PACKETS;
 pub use house::TOKENS;
