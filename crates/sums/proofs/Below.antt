@@ -60,6 +60,12 @@ unfolding sum-below
 sum-zero zero = refl
 sum-zero (suc n) = omega (arith, sum-zero n)
 
+-- two sums term by term
+pub sum-add : (n : ℕ) (f g : ℕ → ℕ) → sum-below n (λ k. f k + g k) ≡ sum-below n f + sum-below n g
+unfolding sum-below
+sum-add zero f g = refl
+sum-add (suc n) f g = let below : sum-below n (λ k. f k + g k) ≡ sum-below n f + sum-below n g = sum-add n f g in omega arith
+
 -- the first term taken off
 pub sum-first : (n : ℕ) (f : ℕ → ℕ) → sum-below (suc n) f ≡ f 0 + sum-below n (λ k. f (suc k))
 unfolding sum-below

@@ -51,6 +51,11 @@ counted-below amount counts d xs =
     counted-from-below amount counts d 0 xs
     ∙ sum-same (length xs) _ _ (λ k h. ap (λ (j : ℕ). gate (counts (getD xs k d) j) (amount (getD xs k d))) (zero-add k))
 
+-- rows of equal worth
+pub total-same : {X : Type 0} (f g : X → ℕ) → ((x : X) → f x ≡ g x) → (xs : List X) → total f xs ≡ total g xs
+total-same f g same [] = refl
+total-same f g same (x ∷ xs) = let here = same x in let rest : total f xs ≡ total g xs = total-same f g same xs in omega arith
+
 -- one row replaced
 pub total-set : {X : Type 0} (f : X → ℕ) (xs : List X) (i : ℕ) (v d : X) → i < length xs → total f (set xs i v) + f (getD xs i d) ≡ total f xs + f v
 total-set f [] i v d h = omega arith

@@ -1,0 +1,5 @@
+use Rattle.books.proofs.Tables.{none-marked}
+use Rattle.books.proofs.marks.Marks.wipe.Needs as need
+
+pub returns : need.returns
+returns c = none-marked 16384
