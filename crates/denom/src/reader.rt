@@ -1,6 +1,7 @@
 ghost use mathlib.Core.Path.{_≡_};
 ghost use mathlib.Core.Bool.{true};
-ghost use mathlib.Core.List.{[]};
+ghost use mathlib.Core.List.{[], _∷_};
+ghost use Rattle.denom.specs.Denomination.{hopless};
 ghost use Prim.Native.Nat.{ℕ, _+_, _-_, _*_, _<_, _≤_};
 ghost use lib.ListN.{length, take, drop, getD, replicate};
 ghost use Rattle.std.specs.Results.{mapped, Cases};
@@ -171,6 +172,20 @@ impl Denomination {
                 Err(_) => Err(TextFault::NotADenomination),
             },
             Err(fault) => Err(fault),
+        }
+    }
+}
+
+impl Denomination {
+    /// The denomination `a`, for places of a table that hold nothing yet.
+    pub fn blank() -> Denomination
+        ensures { λ r. ⌜ denom-view r ≡ hopless (97 ∷ []) ⌝ }
+    {
+        let mut bytes = [0; 16];
+        bytes[0] = b'a';
+        Denomination {
+            hops: Hops::none(),
+            symbol: Symbol { bytes, len: 1 },
         }
     }
 }

@@ -9,6 +9,7 @@ use native.Mathlib.Nat.{add-zero}
 use borrow.Author.Tests.{lt-ltb, le-ltb, ltb-true, ltb-false}
 use lib.Dec.{ltb}
 use lib.ListN.{length, getD, take, drop, set, length-map}
+use Rattle.std.specs.Options.{isSome}
 use Rattle.std.specs.declared.option.Option.{Option}
 use Rattle.std.specs.declared.option.Option.the-variants.{Some, None}
 use Rattle.std.proofs.shelf.Lists.{at-drop-more, at-drop-all, getD-append-left, getD-push, length-push, take-more-set}
@@ -114,3 +115,11 @@ pub one-number : {K : Type 0} (same : K → K → Bool) → ((x y : K) → same 
 one-number same symm trans ks j k e =
     let t = place-same (same j) (same k) (λ x. one-test (same j x) (same k x) (λ h. trans k j x (symm j k e) h) (λ h. trans j k x e h)) ks in
     λ u. cond (ltb (t u) (length ks)) (Some (t u)) None
+
+-- a number is answered just where a row passes
+pub some-found : {K : Type 0} (p : K → Bool) (xs : List K) → isSome (number-of p xs) ≡ found p xs
+some-found p xs = go (found p xs)
+  where
+    go : (b : Bool) → isSome (cond b (Some (place p xs)) None) ≡ b
+    go true = refl
+    go false = refl

@@ -1,0 +1,14 @@
+-- What a call comes to, once it is known which refusal applies first, or that none does.
+use mathlib.Core.Path.{_≡_, refl, ap}
+use Prim.Native.Nat.{ℕ}
+use Rattle.std.specs.declared.option.Option.{Option}
+use Rattle.std.specs.declared.option.Option.the-variants.{Some, None}
+use Rattle.protocol.specs.Refusals.{first}
+use Rattle.protocol.specs.World.{World}
+use Rattle.protocol.specs.Calls.{Call, Answer, no, refusals, outcome, settled-by, step}
+
+pub refused-by : (w : World) (k : Call) (n : ℕ) → first (refusals w k) ≡ Some n → step w k ≡ (w, no n)
+refused-by w k n e = ap (λ (o : Option ℕ). settled-by o w (outcome w k)) e
+
+pub accepted : (w : World) (k : Call) → first (refusals w k) ≡ None → step w k ≡ outcome w k
+accepted w k e = ap (λ (o : Option ℕ). settled-by o w (outcome w k)) e

@@ -1,0 +1,82 @@
+ghost use Prim.Native.Nat.{_≤_};
+use denom::Denomination;
+use denom::TokenId;
+use protocol::LinkKind;
+
+/// An end of a link: a channel of a chain.
+#[derive(Clone, Copy)]
+pub struct End {
+    pub chain: usize,
+    pub channel: usize,
+}
+
+/// Two ends, the kind of the link between them, and whether it has been closed.
+#[derive(Clone, Copy)]
+pub struct Link {
+    pub first: End,
+    pub second: End,
+    pub kind: LinkKind,
+    pub closed: bool,
+}
+
+/// Whether a packet still waits for its acknowledgement or its timeout.
+#[derive(Clone, Copy, PartialEq, Eq, Debug)]
+pub enum Standing {
+    Ended,
+    Stands,
+}
+
+/// A packet as it was sent, and its standing.
+#[derive(Clone, Copy)]
+pub struct Packet {
+    pub lane: usize,
+    pub sequence: usize,
+    pub sender: usize,
+    pub receiver: usize,
+    pub denomination: Denomination,
+    pub amount: u64,
+    pub timeout: u64,
+    pub standing: Standing,
+}
+
+/// A chain's denominations in order of registration.
+#[derive(Clone, Copy)]
+pub struct Denominations {
+    pub(crate) keys: [Denomination; 32],
+    pub(crate) count: usize,
+    ghost few: { count ≤ 32 },
+}
+
+/// The world's tokens in order of registration.
+#[derive(Clone, Copy)]
+pub struct Tokens {
+    pub(crate) keys: [TokenId; 64],
+    pub(crate) count: usize,
+    ghost few: { count ≤ 64 },
+}
+
+/// The links in the order in which they were opened.
+#[derive(Clone, Copy)]
+pub struct Links {
+    pub(crate) rows: [Link; 16],
+    pub(crate) count: usize,
+    ghost few: { count ≤ 16 },
+}
+
+/// The packets in the order in which they were sent.
+#[derive(Clone, Copy)]
+pub struct Packets {
+    pub(crate) rows: [Packet; 512],
+    pub(crate) count: usize,
+    ghost few: { count ≤ 512 },
+}
+
+/// What a world keeps beside its ledger and its books.
+#[derive(Clone, Copy)]
+pub struct Tables {
+    pub(crate) denominations: [Denominations; 8],
+    pub(crate) tokens: Tokens,
+    pub(crate) links: Links,
+    pub(crate) packets: Packets,
+    pub(crate) heights: [u64; 8],
+}
