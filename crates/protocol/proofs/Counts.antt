@@ -15,7 +15,7 @@ use Rattle.sums.specs.Sums.{gate, count}
 use Rattle.register.specs.Keys.{place, found}
 use Rattle.denom.specs.Denomination.{Denom, Token, same-denom, same-token, hopless, behind, stripped}
 use Rattle.denom.specs.Text.{each, is-trace, is-symbol, is-denom}
-use Rattle.protocol.specs.House.{most, links-most, packets-most, tokens-most, denoms-most, channels-most, hops-most, accounts, escrow-account}
+use Rattle.protocol.specs.House.{most, links-most, packets-most, tokens-most, denoms-most, channels-most, hops-most, accounts, escrow-account, chains-most}
 use Rattle.protocol.specs.Ledger.{Ledger, Balances, supply, Lawful, credited, debited, moved, too-large, with-balances, bar-set}
 use Rattle.protocol.specs.Book.{Book, is-one}
 use Rattle.protocol.specs.World.{Packet, World, made, lane, no-denom, number, registered, mark-at, end-at, lowest-unused, back, near, far}
@@ -27,7 +27,7 @@ use Rattle.protocol.proofs.Places.{place-first, same-denom-refl, same-token-re
 use Rattle.protocol.proofs.Homes.{back-in}
 use Rattle.protocol.proofs.Good.{Key, no-key, key, Registers, Sound, Good, grown, grown-cases, grown-old}
 use Rattle.protocol.proofs.Grow.{Distinct, distinct-push}
-use Rattle.protocol.proofs.Views.{Clear, step-by, retire-facts, pay-facts, send-facts, receive-facts, ack-facts, timeout-facts}
+use Rattle.protocol.proofs.Views.{Clear, step-by, issue-facts, retire-facts, pay-facts, send-facts, receive-facts, ack-facts, timeout-facts}
 use Rattle.protocol.proofs.Moves.{homeward, outward, arrival-by, refund-by, sent-by}
 use Rattle.protocol.proofs.Kept.{sound-at, good-world}
 
@@ -138,16 +138,21 @@ behind-proper j e j-in short h =
 
 -- Tokens
 
--- the same of tokens
+-- a token of one of the world's chains, with a symbol
+abbrev Proper : Token → Type 0
+Proper t = (t .chain < chains-most) × (is-symbol (t .symbol) ≡ true)
+
+-- tokens within their count, without repeats, each proper
 record Tokens-fine (ts : List Token) : Type 0 where
   few : length ts ≤ tokens-most
   apart : Distinct (token-at 0 []) ts
+  proper : All Proper ts
 
 -- a token enrolled where there is room
 token-fine :
-    (w : World) (t : Token) → (not (token-known w t) && leb tokens-most (length (w .tokens))) ≡ false → Tokens-fine (w .tokens) →
+    (w : World) (t : Token) → (not (token-known w t) && leb tokens-most (length (w .tokens))) ≡ false → Proper t → Tokens-fine (w .tokens) →
     Tokens-fine (token-enrolled w t .tokens)
-token-fine w t r h = go (token-known w t) refl r
+token-fine w t r in′ h = go (token-known w t) refl r
   where
     go :
         (b : Bool) → token-known w t ≡ b → (not b && leb tokens-most (length (w .tokens))) ≡ false →
@@ -164,6 +169,7 @@ token-fine w t r h = go (token-known w t) refl r
                 place-first (same-token t) (w .tokens) i (token-at 0 []) m hit,
                 ltb-false (place (same-token t) (w .tokens)) (length (w .tokens)) e,
               ));
+          proper = all-push Proper (w .tokens) t (h .proper) in′;
         }
 
 -- Packets: each has a sequence from 1 and an amount from 1 to 2^64 - 1
@@ -298,7 +304,7 @@ fine-outcome w (issue c u s n) g h r =
       lawful = lawful-bal w h _ (supplies-credit (w .ledger .balance) c u (number w c e) n (r .1 .1 .1 .1 .1 .0) (h .lawful .supplies));
       links = h .links;
       packets = h .packets;
-      tokens = token-fine w (token-at c s) (room .0) (h .tokens);
+      tokens = token-fine w (token-at c s) (room .0) (issue-facts w c u s n r .c-in, not-false (is-symbol s) (r .0)) (h .tokens);
       registers = fine-grown (w .register) c e (room .1) (not-false (is-symbol s) (r .0)) (h .registers);
       heights = h .heights;
       paid = h .paid;
@@ -394,7 +400,7 @@ fine-made l bs =
       lawful = record { supplies = λ c d. omega (arith, sum-zero accounts (λ _. 0) (λ _. refl)); bars = λ c u h. refl };
       links = omega arith;
       packets = omega arith;
-      tokens = record { few = omega arith; apart = λ q r h. absurd (omega arith) };
+      tokens = record { few = omega arith; apart = λ q r h. absurd (omega arith); proper = tt };
       registers = record { few = λ c. omega arith; apart = λ c q r h. absurd (omega arith); proper = λ c d h. absurd (omega arith) };
       heights = λ c. omega arith;
       paid = tt;
@@ -421,6 +427,7 @@ bounded l bs past =
       denoms = f .registers .few;
       denoms-differ = λ c. f .registers .apart c;
       tokens-differ = f .tokens .apart;
+      token-in = λ q l. all-getD Proper (w .tokens) q (token-at 0 []) l (f .tokens .proper);
       denom-in = f .registers .proper;
       heights = f .heights;
       end-in = λ i l. (g .wired .small i l, g .wired .narrow i l);

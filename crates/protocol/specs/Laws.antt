@@ -319,6 +319,10 @@ pub record Within (w : World) : Type 0 where
   pub tokens-differ :
       (q r : ℕ) → q < length (w .tokens) → r < length (w .tokens) →
       getD (w .tokens) q (token-at 0 []) ≡ getD (w .tokens) r (token-at 0 []) → q ≡ r
+  -- every token is of one of the world's chains and has a symbol
+  pub token-in :
+      (q : ℕ) → q < length (w .tokens) →
+      (getD (w .tokens) q (token-at 0 []) .chain < chains-most) × (is-symbol (getD (w .tokens) q (token-at 0 []) .symbol) ≡ true)
   -- every registered denomination has at most 6 hops, each a channel 0 to 7, and a symbol
   pub denom-in : (c d : ℕ) → d < length (w .register c) → is-denom (getD (w .register c) d no-denom) ≡ true
   pub heights : (c : ℕ) → w .height c ≤ most
