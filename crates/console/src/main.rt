@@ -1,0 +1,129 @@
+// Reads a script from standard input and answers it line by line on standard output.
+use account_bank::AccountBank;
+use account_bank::AccountBankLedger;
+use books::Book;
+use books::FreeBook;
+use books::FreeBookBook;
+use books::StrictBook;
+use books::StrictBookBook;
+use layers::Barring;
+use layers::BarringLedger;
+use layers::Beside;
+use layers::BesideLedger;
+use ledger::Ledger;
+use note_bank::NoteBank;
+use note_bank::NoteBankLedger;
+use note_bank::Place;
+use protocol::Fault;
+use protocol::FaultFromScript;
+use protocol::FaultFromWorld;
+use protocol::ScriptFault;
+use script::Command;
+use script::MOST_ANSWER;
+use script::MOST_SCRIPT;
+use script::Reply;
+use script::Script;
+use script::is_too_long;
+use script::parse_line;
+use script::write_answer;
+use std::error::AnyError;
+use std::io;
+use std::io::BufWriter;
+use std::io::Read;
+use std::io::Write;
+use world::World;
+
+// Fills a buffer from the input, and answers how many bytes came before it was full or the input ended.
+fn fill(input: &mut impl Read, buffer: &mut [u8]) -> io::Result<usize> {
+    let mut len = 0;
+    for _ in 0..buffer.len() {
+        if len >= buffer.len() {
+            break;
+        }
+        let got = input.read(&mut buffer[len..])?;
+        if got == 0 {
+            break;
+        }
+        len += got;
+    }
+    Ok(len)
+}
+
+// Carries out one command.
+fn perform<L: Ledger, F: Book, S: Book>(world: &mut World<L, F, S>, command: Command) -> Result<Reply, Fault> {
+    match command {
+        Command::Open {
+            first,
+            second,
+            kind,
+        } => {
+            let link = world.open(first, second, kind)?;
+            Ok(Reply::Number(link as u64))
+        }
+        Command::Tick { chain, step } => {
+            world.tick(chain, step)?;
+            Ok(Reply::Done)
+        }
+        _ => Err(Fault::Script(ScriptFault::UnknownCommand)),
+    }
+}
+
+// Carries out the command on a line, if there is one.
+fn carry_out<L: Ledger, F: Book, S: Book>(world: &mut World<L, F, S>, line: &[u8]) -> Result<Option<Reply>, Fault> {
+    match parse_line(line)? {
+        Some(command) => {
+            let reply = perform(world, command)?;
+            Ok(Some(reply))
+        }
+        None => Ok(None),
+    }
+}
+
+// Writes the answer to a line.
+fn print_answer(out: &mut impl Write, number: usize, answer: Result<Reply, Fault>) -> io::Result<()> {
+    let mut buffer = [0; MOST_ANSWER];
+    match write_answer(&mut buffer, number, answer) {
+        Some(len) if len <= MOST_ANSWER => out.write_all(&buffer[0..len]),
+        _ => Ok(()),
+    }
+}
+
+// Answers the lines of a script, one after another.
+fn answer_all<L: Ledger, F: Book, S: Book>(world: &mut World<L, F, S>, text: &[u8], out: &mut impl Write) -> io::Result<()> {
+    let mut script = Script::over(text);
+    while let Some((number, line)) = script.next_line() {
+        match carry_out(world, line) {
+            Ok(None) => {}
+            Ok(Some(reply)) => print_answer(out, number, Ok(reply))?,
+            Err(fault) => print_answer(out, number, Err(fault))?,
+        }
+    }
+    Ok(())
+}
+
+// Answers the script in the first `len` bytes of the text.
+fn answer_script(text: &[u8], rt: &LibcRuntime) -> Result<(), AnyError> {
+    let heap = rt.alloc();
+    let mut out = BufWriter::new(rt.stdout());
+    if is_too_long(text) {
+        out.write_all(b"0 no 1 script\n")?;
+        out.flush()?;
+        return Ok(());
+    }
+    let accounts = AccountBank::new(vec![in heap; 0u64; 768]?);
+    let notes = NoteBank::new(vec![in heap; Place::Free; 1024]?);
+    let ledger = Barring::new(Beside::new(accounts, notes));
+    let mut world = World::new(ledger, FreeBook::new(), StrictBook::new());
+    answer_all(&mut world, text, &mut out)?;
+    out.flush()?;
+    Ok(())
+}
+
+fn main(rt: LibcRuntime) -> Result<(), AnyError> {
+    let mut text = vec![in rt.alloc(); 0u8; MOST_SCRIPT + 1]?;
+    let len = fill(&mut rt.stdin(), &mut text)?;
+    if len > text.len() {
+        return Ok(());
+    }
+    answer_script(&text[0..len], &rt)
+}
