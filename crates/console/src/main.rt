@@ -50,7 +50,10 @@ fn fill(input: &mut impl Read, buffer: &mut [u8]) -> io::Result<usize> {
 }
 
 // Carries out one command.
-fn perform<L: Ledger, F: Book, S: Book>(world: &mut World<L, F, S>, command: Command) -> Result<Reply, Fault> {
+fn perform<L: Ledger, F: Book, S: Book>(
+    world: &mut World<L, F, S>,
+    command: Command,
+) -> Result<Reply, Fault> {
     match command {
         Command::Open {
             first,
@@ -69,7 +72,10 @@ fn perform<L: Ledger, F: Book, S: Book>(world: &mut World<L, F, S>, command: Com
 }
 
 // Carries out the command on a line, if there is one.
-fn carry_out<L: Ledger, F: Book, S: Book>(world: &mut World<L, F, S>, line: &[u8]) -> Result<Option<Reply>, Fault> {
+fn carry_out<L: Ledger, F: Book, S: Book>(
+    world: &mut World<L, F, S>,
+    line: &[u8],
+) -> Result<Option<Reply>, Fault> {
     match parse_line(line)? {
         Some(command) => {
             let reply = perform(world, command)?;
@@ -80,7 +86,11 @@ fn carry_out<L: Ledger, F: Book, S: Book>(world: &mut World<L, F, S>, line: &[u8
 }
 
 // Writes the answer to a line.
-fn print_answer(out: &mut impl Write, number: usize, answer: Result<Reply, Fault>) -> io::Result<()> {
+fn print_answer(
+    out: &mut impl Write,
+    number: usize,
+    answer: Result<Reply, Fault>,
+) -> io::Result<()> {
     let mut buffer = [0; MOST_ANSWER];
     match write_answer(&mut buffer, number, answer) {
         Some(len) if len <= MOST_ANSWER => out.write_all(&buffer[0..len]),
@@ -89,7 +99,11 @@ fn print_answer(out: &mut impl Write, number: usize, answer: Result<Reply, Fault
 }
 
 // Answers the lines of a script, one after another.
-fn answer_all<L: Ledger, F: Book, S: Book>(world: &mut World<L, F, S>, text: &[u8], out: &mut impl Write) -> io::Result<()> {
+fn answer_all<L: Ledger, F: Book, S: Book>(
+    world: &mut World<L, F, S>,
+    text: &[u8],
+    out: &mut impl Write,
+) -> io::Result<()> {
     let mut script = Script::over(text);
     while let Some((number, line)) = script.next_line() {
         match carry_out(world, line) {
