@@ -18,6 +18,7 @@ unfoldable pub table-balances : List ℕ → Balances
 table-balances xs c a d =
     cond (ltb c (table-chains xs) && ltb a accounts && ltb d denoms-most) (getD xs (a * 32 + d) 0) 0
 
+-- the ledger that a table means
 abbrev pub table-meaning : List ℕ → Ledger
 table-meaning xs = without-bars (table-chains xs) (table-balances xs)
 

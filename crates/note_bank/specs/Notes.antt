@@ -16,6 +16,7 @@ use Rattle.ledger.specs.Empty.{without-bars}
 use Rattle.note_bank.specs.declared.place.Place.{Place}
 use Rattle.note_bank.specs.declared.place.Place.the-variants.{Free, Held}
 
+-- a note's amount; a free place has none
 abbrev pub amount-of : Place → ℕ
 amount-of Free = 0
 amount-of (Held n) = n .amount
@@ -65,9 +66,11 @@ note-chains xs = cond (ltb (length xs) 1024) 0 1
 unfoldable pub held : List Place → ℕ → ℕ → ℕ
 held xs a d = total (share a d) xs
 
+-- each balance is the sum of its notes
 unfoldable pub note-balances : List Place → Balances
 note-balances xs c a d = cond (ltb c (note-chains xs) && ltb a accounts && ltb d denoms-most) (held xs a d) 0
 
+-- the ledger that places with notes mean
 abbrev pub notes-meaning : List Place → Ledger
 notes-meaning xs = without-bars (note-chains xs) (note-balances xs)
 

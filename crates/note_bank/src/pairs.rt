@@ -10,6 +10,10 @@ ghost use Rattle.note_bank.specs.Notes.{Proper, Alike, pair-of, amount-of, hel
 ghost use Rattle.note_bank.specs.declared.place.Place.the-variants.{Free};
 use crate::place::Note;
 use crate::place::Place;
+use ledger::DENOMINATIONS;
+
+// How many pairs of an account and a denomination there are.
+const PAIRS: usize = 768;
 
 // A free place, if there is one.
 pub(crate) fn find_free(places: &[Place]) -> Option<usize>
@@ -32,10 +36,10 @@ pub(crate) fn find_pair(places: &[Place]) -> (usize, usize)
     ensures within { λ r. ⌜ r .1 < length (now (places .entry)) ⌝ }
     ensures alike { λ r. ⌜ Alike (getD (now (places .entry)) (r .0) Free) (getD (now (places .entry)) (r .1) Free) ⌝ }
 {
-    let mut seen: [Option<usize>; 768] = [None; 768];
+    let mut seen: [Option<usize>; PAIRS] = [None; PAIRS];
     for (index, place) in places.iter().enumerate() {
         if let Place::Held(note) = place {
-            let pair = note.owner * 32 + note.denomination;
+            let pair = note.owner * DENOMINATIONS + note.denomination;
             if let Some(earlier) = seen[pair] {
                 return (earlier, index);
             }

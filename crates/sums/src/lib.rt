@@ -36,6 +36,9 @@ pub fn add_up<R: Row>(rows: &[R], which: &R::Which) -> u128
     sum
 }
 
+// A table of amounts has so many denominations to an account.
+const DENOMINATIONS: usize = 32;
+
 /// Of a table of amounts with 32 denominations to an account: one denomination of the accounts from `from` up to, but
 /// not with, `to`.
 #[derive(Clone, Copy)]
@@ -57,7 +60,7 @@ pub impl Row for u64 as AmountRow {
     }
 
     fn chosen(&self, which: &Column, place: usize) -> bool {
-        let account = place / 32;
-        place % 32 == which.denomination && which.from <= account && account < which.to
+        let account = place / DENOMINATIONS;
+        place % DENOMINATIONS == which.denomination && which.from <= account && account < which.to
     }
 }
