@@ -1,11 +1,11 @@
 -- A write to one amount of a table, its columns, and an empty table, as the ledger sees them.
-use mathlib.Core.Path.{_≡_, refl, sym, ap, _∙_, fun-ext}
+use mathlib.Core.Path.{_≡_, refl, ap, _∙_, fun-ext}
 use mathlib.Core.Bool.{cond}
 use mathlib.Core.List.{List, _++_}
 use mathlib.Core.Logic.{⊎-elim}
 use Prim.Native.Nat.{ℕ, _+_, _*_, _<_, _≤_}
 use native.Mathlib.Omega.{arith}
-use lib.Dec.{eqb, ltb}
+use lib.Dec.{ltb}
 use lib.ListN.{length, getD, set, length-set, take, drop}
 use lib.Seq.{getD-set-same, getD-set-other, take-append-le, take-all}
 use Rattle.std.proofs.shelf.Tests.{cases-eq}
@@ -16,7 +16,7 @@ use Rattle.sums.specs.declared.Column.{Column}
 use Rattle.sums.proofs.Below.{sum-same, sum-zero}
 use Rattle.sums.proofs.Columns.{column-counted}
 use Rattle.protocol.specs.House.{most}
-use Rattle.protocol.specs.Ledger.{Balances, supply, put}
+use Rattle.protocol.specs.Ledger.{supply, put}
 use Rattle.ledger.specs.Empty.{without-bars, empty}
 use Rattle.account_bank.specs.Table.{table-chains, table-balances, table-meaning}
 

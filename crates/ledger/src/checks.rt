@@ -1,5 +1,4 @@
 ghost use mathlib.Core.Path.{_≡_};
-ghost use Prim.Native.Nat.{ℕ};
 ghost use lib.Dec.{leb};
 ghost use Rattle.protocol.specs.Faults.{told-by, ledger-number};
 ghost use Rattle.protocol.specs.House.{accounts};

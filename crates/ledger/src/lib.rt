@@ -7,7 +7,6 @@ pub use checks::USERS;
 pub use checks::within;
 ghost use mathlib.Core.Path.{_≡_};
 ghost use mathlib.Core.Bool.{true, false};
-ghost use Prim.Native.Nat.{ℕ};
 ghost use Rattle.protocol.specs.Faults.{told-by, ledger-number};
 ghost use Rattle.protocol.specs.Ledger.{Ledger as Meaning, Lawful, supply as supply-of, users-hold, with-balances, credited, debited, moved, bar-set, cleared, credit-refusals, debit-refusals, move-refusals, bar-refusals, chain-refusals, supply-refusals, balance-refusals, user-refusals};
 ghost use Rattle.protocol.specs.Refusals.{answer-unless, left-by};
