@@ -1,13 +1,13 @@
 -- A write to one amount of a table, its columns, and an empty table, as the ledger sees them.
-use mathlib.Core.Path.{_≡_, refl, sym, ap, _∙_, fun-ext}
+use mathlib.Core.Path.{_≡_, refl, ap, _∙_, fun-ext}
 use mathlib.Core.Bool.{cond}
-use mathlib.Core.List.{List, _++_}
+use mathlib.Core.List.{List}
 use mathlib.Core.Logic.{⊎-elim}
 use Prim.Native.Nat.{ℕ, _+_, _*_, _<_, _≤_}
 use native.Mathlib.Omega.{arith}
-use lib.Dec.{eqb, ltb}
-use lib.ListN.{length, getD, set, length-set, take, drop}
-use lib.Seq.{getD-set-same, getD-set-other, take-append-le, take-all}
+use lib.Dec.{ltb}
+use lib.ListN.{length, getD, set, length-set}
+use lib.Seq.{getD-set-same, getD-set-other}
 use Rattle.std.proofs.shelf.Tests.{cases-eq}
 use Rattle.std.proofs.shelf.Ways.{tells}
 use Rattle.sums.specs.Sums.{sum-below, counted}
@@ -16,7 +16,7 @@ use Rattle.sums.specs.declared.Column.{Column}
 use Rattle.sums.proofs.Below.{sum-same, sum-zero}
 use Rattle.sums.proofs.Columns.{column-counted}
 use Rattle.protocol.specs.House.{most}
-use Rattle.protocol.specs.Ledger.{Balances, supply, put}
+use Rattle.protocol.specs.Ledger.{supply, put}
 use Rattle.ledger.specs.Empty.{without-bars, empty}
 use Rattle.account_bank.specs.Table.{table-chains, table-balances, table-meaning}
 
@@ -65,7 +65,3 @@ module _ (xs : List ℕ) (none : (k : ℕ) → getD xs k 0 ≡ 0) where
   pub wiped-meaning : (ys : List ℕ) → length xs ≡ length ys → table-meaning xs ≡ empty (table-chains ys)
   wiped-meaning ys e =
       ap (without-bars (table-chains xs)) zero-balances ∙ ap (λ (n : ℕ). empty (cond (ltb n 768) 0 1)) e
-
--- what a `Vec` holds once all of it was lent
-pub lent-whole : (n : ℕ) (w xs : List ℕ) → n ≡ length xs → length w ≡ length xs → take n (w ++ drop (length w) xs) ≡ w
-lent-whole n w xs e f = let h : n ≤ length w = omega arith in let g : length w ≤ n = omega arith in rw take-append-le (take-all n w g)

@@ -1,5 +1,5 @@
 -- What a table of amounts means as a ledger: one chain, 24 accounts of 32 denominations each, and no bars.
-use mathlib.Core.Path.{_≡_, refl}
+use mathlib.Core.Path.{refl}
 use mathlib.Core.Bool.{cond, _&&_}
 use mathlib.Core.List.{List}
 use Prim.Native.Nat.{ℕ, _+_, _*_, _≤_}

@@ -1,5 +1,5 @@
 -- What a table of marks means as a book: 512 places for each of 32 lanes, one for each sequence from 1 on.
-use mathlib.Core.Path.{_≡_, refl}
+use mathlib.Core.Path.{refl}
 use mathlib.Core.Bool.{Bool, cond}
 use mathlib.Core.List.{List}
 use Prim.Native.Nat.{ℕ, _+_, _-_, _*_}

@@ -1,41 +1,27 @@
 -- A call to a ledger under bars, seen through the bars.
-use mathlib.Core.Path.{_≡_, refl, sym, ap, _∙_, fun-ext}
-use mathlib.Core.Bool.{Bool, true, false, cond, _&&_, _||_}
+use mathlib.Core.Path.{_≡_, refl, sym, ap, fun-ext}
+use mathlib.Core.Bool.{Bool, true, false, _||_}
 use mathlib.Core.List.{List}
 use mathlib.Core.Logic.{⊎-elim}
-use Prim.Native.Nat.{ℕ, _+_, _-_, _*_, _<_, _≤_, min}
+use Prim.Native.Nat.{ℕ, _+_, _-_, _*_, _<_, _≤_}
 use native.Mathlib.Omega.{arith}
-use lib.Dec.{eqb, ltb, leb}
 use lib.ListN.{length, getD, set, replicate, length-replicate}
 use lib.Seq.{getD-set-same, getD-set-other}
 use Rattle.std.specs.declared.option.Option.the-variants.{None}
 use Rattle.std.specs.declared.result.Result.{Result}
 use Rattle.std.specs.declared.result.Result.the-variants.{Ok, Err}
 use Rattle.std.proofs.shelf.Lists.{getD-past, getD-replicate}
-use Rattle.std.proofs.shelf.Tests.{cases-eq, cases-lt, cases-bool, lt-ltb, le-ltb, and-right}
+use Rattle.std.proofs.shelf.Tests.{cases-eq, cases-lt, cases-bool}
 use Rattle.std.proofs.shelf.Ways.{tells}
 use Rattle.protocol.specs.Faults.{told-by, ledger-number}
-use Rattle.protocol.specs.Ledger.{Ledger, Lawful, supply, with-balances, with-barred, credited, debited, bar-set, cleared, credit-refusals, debit-refusals, bar-refusals}
+use Rattle.protocol.specs.Ledger.{Ledger, Lawful, with-barred, bar-set, cleared, bar-refusals}
 use Rattle.protocol.specs.Refusals.{first, answer-unless, left-by}
 use Rattle.protocol.specs.declared.faults.LedgerFault.{LedgerFault}
 use Rattle.layers.specs.Layers.{barring, barring-chains}
 
-module _ (fs : List Bool) (m : Ledger) (c a d n : ℕ) (low : c < 8) where
-  barring-supply : supply (barring fs m .balance) c d ≡ supply (m .balance) c d
-  barring-supply = rw (lt-ltb c 8 low) refl
-
-  pub barring-credit : first (credit-refusals m c a d n) ≡ first (credit-refusals (barring fs m) c a d n)
-  barring-credit = grind (arith, tells, barring-supply)
-
-  pub barring-credited : barring fs (with-balances m (credited (m .balance) c a d n)) ≡ with-balances (barring fs m) (credited (barring fs m .balance) c a d n)
-  barring-credited = ap (with-balances (barring fs m)) (fun-ext λ c′. fun-ext λ a′. fun-ext λ d′. grind (arith, tells))
-
-  pub barring-debited : barring fs (with-balances m (debited (m .balance) c a d n)) ≡ with-balances (barring fs m) (debited (barring fs m .balance) c a d n)
-  barring-debited = ap (with-balances (barring fs m)) (fun-ext λ c′. fun-ext λ a′. fun-ext λ d′. grind (arith, tells))
-
--- one flag set, where the ledger below says the same of that user, and of the others what it said
-module _ (fs : List Bool) (m : Ledger) (s : ℕ → ℕ → Bool) (c u : ℕ) (v : Bool) (long : length fs ≡ 128) (served : c < barring-chains m) (user : u < 16) (others : (c′ u′ : ℕ) → (c′ ≡ c → u′ ≡ u → ⊥) → s c′ u′ ≡ m .barred c′ u′) (here : (v || s c u) ≡ v) where
-  flag-each : (c′ u′ : ℕ) → barring (set fs (c * 16 + u) v) (with-barred m s) .barred c′ u′ ≡ bar-set (barring fs m) c u v .barred c′ u′
+-- one flag set, where the ledger below agrees
+module _ (fs : List Bool) (m : Ledger) (c u : ℕ) (v : Bool) (long : length fs ≡ 128) (served : c < barring-chains m) (user : u < 16) (agrees : (v || m .barred c u) ≡ v) where
+  flag-each : (c′ u′ : ℕ) → barring (set fs (c * 16 + u) v) m .barred c′ u′ ≡ bar-set (barring fs m) c u v .barred c′ u′
   flag-each c′ u′ =
       ⊎-elim
       (λ (e : c′ * 16 + u′ ≡ c * 16 + u).
@@ -44,28 +30,28 @@ module _ (fs : List Bool) (m : Ledger) (s : ℕ → ℕ → Bool) (c u : ℕ) (v
       (λ (in-row : u′ < 16).
       let same-chain : c ≡ c′ = omega arith in
       let same-user : u ≡ u′ = omega arith in
-      let said : (v || s c′ u′) ≡ v = rw (sym same-chain, sym same-user) here in
+      let said : (v || m .barred c′ u′) ≡ v = rw (sym same-chain, sym same-user) agrees in
       grind (arith, tells))
       (λ (out : 16 ≤ u′). grind (arith, tells))
       (cases-lt u′ 16))
       (λ (e : c′ * 16 + u′ ≡ c * 16 + u → ⊥).
       let set-there : getD (set fs (c * 16 + u) v) (c′ * 16 + u′) false ≡ getD fs (c′ * 16 + u′) false = getD-set-other fs (c * 16 + u) (c′ * 16 + u′) v false e in
-      let same : s c′ u′ ≡ m .barred c′ u′ = others c′ u′ (λ p q. e (omega arith)) in
       grind (arith, tells))
       (cases-eq (c′ * 16 + u′) (c * 16 + u))
 
-  pub flag-set : barring (set fs (c * 16 + u) v) (with-barred m s) ≡ bar-set (barring fs m) c u v
+  pub flag-set : barring (set fs (c * 16 + u) v) m ≡ bar-set (barring fs m) c u v
   flag-set = ap (with-barred (barring fs m)) (fun-ext λ c′. fun-ext λ u′. flag-each c′ u′)
 
 -- what is left below when a bar is lifted there, or cannot be since that chain serves none
 module _ (m : Ledger) (law : Lawful m) (c u : ℕ) (served : c < m .chains) (user : u < 16) where
-  pub lifted-is : (r : Result (Unit {0}) LedgerFault) → left-by r m (bar-set m c u false) ≡ with-barred m (left-by r m (bar-set m c u false) .barred)
-  lifted-is (Ok x) = refl
-  lifted-is (Err f) = refl
+  pub lifted-chains : (r : Result (Unit {0}) LedgerFault) → left-by r m (bar-set m c u false) .chains ≡ m .chains
+  lifted-chains (Ok x) = refl
+  lifted-chains (Err f) = refl
 
-  pub lifted-others : (r : Result (Unit {0}) LedgerFault) (c′ u′ : ℕ) → (c′ ≡ c → u′ ≡ u → ⊥) → left-by r m (bar-set m c u false) .barred c′ u′ ≡ m .barred c′ u′
-  lifted-others (Ok x) c′ u′ h = grind (arith, tells)
-  lifted-others (Err f) c′ u′ h = refl
+  -- of all other users nothing else is said
+  pub lifted-others : (fs : List Bool) (r : Result (Unit {0}) LedgerFault) → bar-set (barring fs (left-by r m (bar-set m c u false))) c u false ≡ bar-set (barring fs m) c u false
+  lifted-others fs (Ok x) = ap (with-barred (barring fs m)) (fun-ext λ c′. fun-ext λ u′. grind (arith, tells))
+  lifted-others fs (Err f) = refl
 
   pub lifted-here : (r : Result (Unit {0}) LedgerFault) → told-by ledger-number r ≡ answer-unless (bar-refusals m c u) tt → left-by r m (bar-set m c u false) .barred c u ≡ false
   lifted-here (Ok x) e = grind (arith, tells)
@@ -88,10 +74,4 @@ none-flagged n k =
 
 pub barring-cleared : (fs gs : List Bool) (m : Ledger) → ((k : ℕ) → getD gs k false ≡ false) → barring gs (cleared m) ≡ cleared (barring fs m)
 barring-cleared fs gs m none =
-    λ i. record { chains = barring-chains m; serves-bars = λ c. ltb c (barring-chains m); balance = balances i; barred = nobody i }
-  where
-    balances : _≡_ {A = ℕ → ℕ → ℕ → ℕ} (λ c a d. cond (ltb c 8) 0 0) (λ c a d. 0)
-    balances = fun-ext λ c. fun-ext λ a. fun-ext λ d. grind (arith, tells)
-
-    nobody : _≡_ {A = ℕ → ℕ → Bool} (λ c u. ltb c (barring-chains m) && (ltb u 16 && (getD gs (c * 16 + u) false || false))) (λ c u. false)
-    nobody = fun-ext λ c. fun-ext λ u. let h = none (c * 16 + u) in grind (arith, tells)
+    ap (with-barred (cleared (barring fs m))) (fun-ext λ c. fun-ext λ u. let h = none (c * 16 + u) in grind (arith, tells))

@@ -1,12 +1,10 @@
 -- A call to one of two ledgers side by side, seen from both.
-use mathlib.Core.Path.{_≡_, refl, ap, _∙_, fun-ext}
-use mathlib.Core.Bool.{Bool, cond, _&&_}
-use Prim.Native.Nat.{ℕ, _+_, _-_, _<_, _≤_}
+use mathlib.Core.Path.{_≡_, refl, ap, fun-ext}
+use Prim.Native.Nat.{ℕ, _-_, _<_, _≤_}
 use native.Mathlib.Omega.{arith}
-use lib.Dec.{eqb, ltb, leb}
 use Rattle.std.proofs.shelf.Tests.{lt-ltb, le-ltb}
 use Rattle.std.proofs.shelf.Ways.{tells}
-use Rattle.protocol.specs.Ledger.{Ledger, supply, with-balances, with-barred, credited, debited, bar-set, credit-refusals, debit-refusals, bar-refusals}
+use Rattle.protocol.specs.Ledger.{Ledger, supply, with-balances, credited, debited, credit-refusals, debit-refusals}
 use Rattle.protocol.specs.Refusals.{first}
 use Rattle.layers.specs.Layers.{beside}
 

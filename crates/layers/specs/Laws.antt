@@ -4,26 +4,16 @@ use mathlib.Core.Bool.{Bool, false}
 use mathlib.Core.List.{List}
 use mathlib.Core.Logic.{⊎-elim}
 use Prim.Native.Nat.{ℕ, _-_, _<_, _≤_}
-use native.Mathlib.Omega.{arith}
-use lib.Dec.{ltb}
 use Rattle.std.proofs.shelf.Tests.{cases-lt, lt-ltb, le-ltb}
-use Rattle.sums.proofs.Below.{sum-zero}
 use Rattle.protocol.specs.House.{most}
 use Rattle.protocol.specs.Ledger.{Ledger, Lawful, supply}
 use Rattle.layers.specs.Layers.{barring, beside}
-
-barring-supplies : (fs : List Bool) (m : Ledger) → Lawful m → (c d : ℕ) → supply (barring fs m .balance) c d ≤ most
-barring-supplies fs m l c d =
-    ⊎-elim
-    (λ (h : c < 8). rw (lt-ltb c 8 h) (l .supplies c d))
-    (λ (h : 8 ≤ c). rw (le-ltb c 8 h) (omega (arith, sum-zero 24)))
-    (cases-lt c 8)
 
 barring-bars : (fs : List Bool) (m : Ledger) (c u : ℕ) → barring fs m .serves-bars c ≡ false → barring fs m .barred c u ≡ false
 barring-bars fs m c u e = rw e refl
 
 pub barring-lawful : (fs : List Bool) (m : Ledger) → Lawful m → Lawful (barring fs m)
-barring-lawful fs m l = record { supplies = barring-supplies fs m l; bars = barring-bars fs m }
+barring-lawful fs m l = record { supplies = l .supplies; bars = barring-bars fs m }
 
 beside-supplies : (m k : Ledger) → Lawful m → Lawful k → (c d : ℕ) → supply (beside m k .balance) c d ≤ most
 beside-supplies m k l r c d =

@@ -17,7 +17,7 @@ barring fs m =
     record {
       chains = barring-chains m;
       serves-bars = λ c. ltb c (barring-chains m);
-      balance = λ c a d. cond (ltb c chains-most) (m .balance c a d) 0;
+      balance = m .balance;
       barred = λ c u. ltb c (barring-chains m) && (ltb u users && (getD fs (c * 16 + u) false || m .barred c u));
     }
 

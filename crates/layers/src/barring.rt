@@ -1,7 +1,9 @@
 ghost use mathlib.Core.Path.{_≡_};
-ghost use mathlib.Core.Bool.{false};
+ghost use mathlib.Core.Bool.{false, _||_};
+ghost use Prim.Native.Nat.{_<_};
 ghost use lib.ListN.{replicate};
-ghost use Rattle.layers.specs.Layers.{barring as with-bars};
+ghost use Rattle.protocol.specs.Ledger.{bar-set, cleared};
+ghost use Rattle.layers.specs.Layers.{barring as with-bars, barring-chains};
 ghost use Rattle.layers.specs.Laws.{barring-lawful};
 use ledger::Ledger;
 use ledger::USERS;
@@ -27,6 +29,35 @@ impl<L: Ledger> Barring<L> {
             ledger,
             flags: [false; 128],
         }
+    }
+
+    // Says of a user what the ledger below says too, or says that the user is barred.
+    fn set_flag(&mut self, chain: usize, user: usize, barred: bool)
+        requires served { ⌜ chain < barring-chains (L·Ledger .meaning (now self .ledger)) ⌝ }
+        requires user { ⌜ user < 16 ⌝ }
+        requires agrees { ⌜ (barred || L·Ledger .meaning (now self .ledger) .barred chain user) ≡ barred ⌝ }
+        ensures { λ _. ⌜ with-bars (now (self .exit) .flags) (L·Ledger .meaning (now (self .exit) .ledger)) ≡ bar-set (with-bars (now (self .entry) .flags) (L·Ledger .meaning (now (self .entry) .ledger))) chain user barred ⌝ }
+    {
+        self.flags[chain * USERS + user] = barred;
+    }
+
+    // Lifts a user's bar below, where the ledger there serves bars; where it serves none, it has no bar.
+    fn lift_below(&mut self, chain: usize, user: usize)
+        requires served { ⌜ chain < barring-chains (L·Ledger .meaning (now self .ledger)) ⌝ }
+        requires user { ⌜ user < 16 ⌝ }
+        ensures chains { λ _. ⌜ L·Ledger .meaning (now (self .exit) .ledger) .chains ≡ L·Ledger .meaning (now (self .entry) .ledger) .chains ⌝ }
+        ensures lifted { λ _. ⌜ L·Ledger .meaning (now (self .exit) .ledger) .barred chain user ≡ false ⌝ }
+        ensures others { λ _. ⌜ bar-set (with-bars (now (self .exit) .flags) (L·Ledger .meaning (now (self .exit) .ledger))) chain user false ≡ bar-set (with-bars (now (self .entry) .flags) (L·Ledger .meaning (now (self .entry) .ledger))) chain user false ⌝ }
+    {
+        let _ = self.ledger.unbar(chain, user);
+    }
+
+    // Forgets the users that this layer bars: with the ledger below cleared, nothing is left.
+    fn forget(&mut self)
+        ensures below { λ _. ⌜ now (self .exit) .ledger ≡ now (self .entry) .ledger ⌝ }
+        ensures after { λ _. ⌜ with-bars (now (self .exit) .flags) (cleared (L·Ledger .meaning (now (self .entry) .ledger))) ≡ cleared (with-bars (now (self .entry) .flags) (L·Ledger .meaning (now (self .entry) .ledger))) ⌝ }
+    {
+        self.flags = [false; 128];
     }
 }
 
@@ -111,19 +142,19 @@ pub impl<L: Ledger> Ledger for Barring<L> as BarringLedger {
 
     fn bar(&mut self, chain: usize, user: usize) -> Result<(), LedgerFault> {
         self.is_barred(chain, user)?;
-        self.flags[chain * USERS + user] = true;
+        self.set_flag(chain, user, true);
         Ok(())
     }
 
     fn unbar(&mut self, chain: usize, user: usize) -> Result<(), LedgerFault> {
         self.is_barred(chain, user)?;
-        self.flags[chain * USERS + user] = false;
-        let _ = self.ledger.unbar(chain, user);
+        self.lift_below(chain, user);
+        self.set_flag(chain, user, false);
         Ok(())
     }
 
     fn clear(&mut self) {
-        self.flags = [false; 128];
+        self.forget();
         self.ledger.clear();
     }
 }

@@ -1,9 +1,9 @@
 -- Two notes of one account and denomination joined into one.
-use mathlib.Core.Path.{_≡_, refl, sym, ap, _∙_}
+use mathlib.Core.Path.{_≡_, refl, _∙_}
 use mathlib.Core.Bool.{true}
 use mathlib.Core.List.{List}
 use mathlib.Core.Logic.{_≢_}
-use Prim.Native.Nat.{ℕ, _+_, _*_, _<_, _≤_}
+use Prim.Native.Nat.{ℕ, _+_, _<_, _≤_}
 use native.Mathlib.Omega.{arith}
 use lib.ListN.{length, getD, set, length-set}
 use lib.Seq.{getD-set-same, getD-set-other}
@@ -11,15 +11,11 @@ use Rattle.std.proofs.shelf.Ways.{tells}
 use Rattle.protocol.specs.House.{most}
 use Rattle.protocol.specs.Ledger.{supply}
 use Rattle.ledger.proofs.Supplies.{balance-in-supply}
-use Rattle.note_bank.specs.Notes.{amount-of, share, proper, Proper, pair-of, Alike, held, note-balances}
+use Rattle.note_bank.specs.Notes.{amount-of, joint-note, share, proper, Proper, pair-of, Alike, held, note-balances}
 use Rattle.note_bank.specs.declared.place.Note.{Note}
 use Rattle.note_bank.specs.declared.place.Place.{Place}
 use Rattle.note_bank.specs.declared.place.Place.the-variants.{Free, Held}
 use Rattle.note_bank.proofs.Shares.{held-set, proper-set, balance-held}
-
--- the note that two are joined into
-abbrev pub joint : Note → Note → Place
-joint n k = Held (record { owner = n .owner; denomination = n .denomination; amount = n .amount + k .amount })
 
 module _ (xs : List Place) (i j : ℕ) (n k : Note) (order : i < j) (within : j < length xs) (at-i : getD xs i Free ≡ Held n) (at-j : getD xs j Free ≡ Held k) (notes : Proper xs) (alike : pair-of (Held n) ≡ pair-of (Held k)) where
   proper-n : proper (Held n) ≡ true
@@ -28,7 +24,7 @@ module _ (xs : List Place) (i j : ℕ) (n k : Note) (order : i < j) (within : j 
   proper-k : proper (Held k) ≡ true
   proper-k = rw at-j at (notes j)
 
-  share-joint : (a d : ℕ) → share a d (joint n k) ≡ share a d (Held n) + share a d (Held k)
+  share-joint : (a d : ℕ) → share a d (Held (joint-note n k)) ≡ share a d (Held n) + share a d (Held k)
   share-joint a d =
       let p = proper-n in
       let q = proper-k in
@@ -36,23 +32,23 @@ module _ (xs : List Place) (i j : ℕ) (n k : Note) (order : i < j) (within : j 
       let same-denomination : n .denomination ≡ k .denomination = grind (arith, tells) in
       grind (arith, tells)
 
-  there : getD (set xs i (joint n k)) j Free ≡ Held k
-  there = let ne : j ≢ i = omega arith in getD-set-other xs i j (joint n k) Free ne ∙ at-j
+  there : getD (set xs i (Held (joint-note n k))) j Free ≡ Held k
+  there = let ne : j ≢ i = omega arith in getD-set-other xs i j (Held (joint-note n k)) Free ne ∙ at-j
 
   -- no sum changes
-  pub held-joined : (a d : ℕ) → held (set (set xs i (joint n k)) j Free) a d ≡ held xs a d
+  pub held-joined : (a d : ℕ) → held (set (set xs i (Held (joint-note n k))) j Free) a d ≡ held xs a d
   held-joined a d =
-      let first = held-set xs i (joint n k) (omega arith) a d in
-      let second = held-set (set xs i (joint n k)) j Free (rw length-set within) a d in
+      let first = held-set xs i (Held (joint-note n k)) (omega arith) a d in
+      let second = held-set (set xs i (Held (joint-note n k))) j Free (rw length-set within) a d in
       omega (arith, rw at-i at first, rw there at second, share-joint a d)
 
-  pub proper-joined : Proper (set (set xs i (joint n k)) j Free)
+  pub proper-joined : Proper (set (set xs i (Held (joint-note n k))) j Free)
   proper-joined =
       let p = proper-n in
-      proper-set (set xs i (joint n k)) j Free (rw length-set within) (proper-set xs i (joint n k) (omega arith) notes (grind (arith, tells))) refl
+      proper-set (set xs i (Held (joint-note n k))) j Free (rw length-set within) (proper-set xs i (Held (joint-note n k)) (omega arith) notes (grind (arith, tells))) refl
 
-  pub free-joined : getD (set (set xs i (joint n k)) j Free) j Free ≡ Free
-  free-joined = getD-set-same (set xs i (joint n k)) j Free Free (rw length-set within)
+  pub free-joined : getD (set (set xs i (Held (joint-note n k))) j Free) j Free ≡ Free
+  free-joined = getD-set-same (set xs i (Held (joint-note n k))) j Free Free (rw length-set within)
 
 -- the shares of two places are part of the sum
 two-shares : (xs : List Place) (i j : ℕ) → i < j → j < length xs → (a d : ℕ) → share a d (getD xs i Free) + share a d (getD xs j Free) ≤ held xs a d

@@ -1,15 +1,15 @@
 -- What one place more, one place replaced and places freed do to the sums of notes, and what the adding-up routine gives.
 use mathlib.Core.Path.{_≡_, refl, sym, ap, _∙_, fun-ext}
-use mathlib.Core.Bool.{Bool, true, false, cond, _&&_}
-use mathlib.Core.List.{List, [], _∷_, map, _++_}
+use mathlib.Core.Bool.{true, false, cond, _&&_}
+use mathlib.Core.List.{List, [], _∷_, map}
 use mathlib.Core.Logic.{⊎-elim}
 use Prim.Native.Nat.{ℕ, suc, _+_, _<_, _≤_}
 use native.Mathlib.Omega.{arith}
-use lib.Dec.{eqb, ltb, leb}
-use lib.ListN.{length, getD, set, length-set, take, drop}
-use lib.Seq.{getD-set-same, getD-set-other, take-append-le, take-all}
+use lib.Dec.{eqb, ltb}
+use lib.ListN.{length, getD, set, length-set}
+use lib.Seq.{getD-set-same, getD-set-other}
 use Rattle.std.proofs.shelf.Lists.{getD-past, getD-map, length-map}
-use Rattle.std.proofs.shelf.Tests.{cases-eq, cases-lt, cases-bool, ne-eqb, le-ltb, lt-ltb}
+use Rattle.std.proofs.shelf.Tests.{cases-eq, cases-lt, cases-bool}
 use Rattle.std.proofs.shelf.Ways.{tells}
 use Rattle.sums.specs.Sums.{sum-below, total, gate, counted}
 use Rattle.sums.specs.declared.Column.{Column}
@@ -170,7 +170,3 @@ freed-meaning xs ys free e =
 
 pub freed-supplies : (xs : List Place) → ((k : ℕ) → getD xs k Free ≡ Free) → (c d : ℕ) → supply (note-balances xs) c d ≤ most
 freed-supplies xs free c d = omega (arith, ap (λ (b : Balances). supply b c d) (free-balances xs free), sum-zero 24)
-
--- what a `Vec` holds once all of it was lent
-pub lent-whole : (n : ℕ) (w xs : List Place) → n ≡ length xs → length w ≡ length xs → take n (w ++ drop (length w) xs) ≡ w
-lent-whole n w xs e f = let h : n ≤ length w = omega arith in let g : length w ≤ n = omega arith in rw take-append-le (take-all n w g)

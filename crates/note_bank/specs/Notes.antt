@@ -13,6 +13,7 @@ use Rattle.sums.specs.declared.Column.{Column}
 use Rattle.protocol.specs.House.{most, accounts, denoms-most}
 use Rattle.protocol.specs.Ledger.{Balances, Ledger, Lawful, supply}
 use Rattle.ledger.specs.Empty.{without-bars}
+use Rattle.note_bank.specs.declared.place.Note.{Note}
 use Rattle.note_bank.specs.declared.place.Place.{Place}
 use Rattle.note_bank.specs.declared.place.Place.the-variants.{Free, Held}
 
@@ -53,6 +54,10 @@ pair-of (Held n) = Some (n .owner * 32 + n .denomination)
 -- two notes of one account and denomination
 abbrev pub Alike : Place → Place → Type 0
 Alike p q = (isSome (pair-of p) ≡ true) × (pair-of p ≡ pair-of q)
+
+-- two such notes as one: both amounts under the first's account and denomination
+abbrev pub joint-note : Note → Note → Note
+joint-note n k = record { owner = n .owner; denomination = n .denomination; amount = n .amount + k .amount }
 
 -- a place without the notes of account a and denomination d
 abbrev pub released : ℕ → ℕ → Place → Place

@@ -18,6 +18,9 @@ use ledger::ACCOUNTS;
 use ledger::DENOMINATIONS;
 use ledger::Ledger;
 use ledger::USERS;
+use ledger::balance_within;
+use ledger::total_within;
+use ledger::user_within;
 use ledger::within;
 use protocol::LedgerFault;
 use sums::Column;
@@ -162,45 +165,22 @@ pub impl Ledger for NoteBank as NoteBankLedger {
         account: usize,
         denomination: usize,
     ) -> Result<u64, LedgerFault> {
-        if chain >= self.chains() {
-            return Err(LedgerFault::ChainNotServed);
-        }
-        if account >= ACCOUNTS {
-            return Err(LedgerFault::NoSuchAccount);
-        }
-        if denomination >= DENOMINATIONS {
-            return Err(LedgerFault::NoSuchDenomination);
-        }
+        balance_within(self.chains(), chain, account, denomination)?;
         Ok(self.at(account, denomination))
     }
 
     fn supply(&self, chain: usize, denomination: usize) -> Result<u64, LedgerFault> {
-        if chain >= self.chains() {
-            return Err(LedgerFault::ChainNotServed);
-        }
-        if denomination >= DENOMINATIONS {
-            return Err(LedgerFault::NoSuchDenomination);
-        }
+        total_within(self.chains(), chain, denomination)?;
         Ok(self.sum_of(ACCOUNTS, denomination))
     }
 
     fn users_hold(&self, chain: usize, denomination: usize) -> Result<u64, LedgerFault> {
-        if chain >= self.chains() {
-            return Err(LedgerFault::ChainNotServed);
-        }
-        if denomination >= DENOMINATIONS {
-            return Err(LedgerFault::NoSuchDenomination);
-        }
+        total_within(self.chains(), chain, denomination)?;
         Ok(self.sum_of(USERS, denomination))
     }
 
     fn is_barred(&self, chain: usize, user: usize) -> Result<bool, LedgerFault> {
-        if chain >= self.chains() {
-            return Err(LedgerFault::ChainNotServed);
-        }
-        if user >= USERS {
-            return Err(LedgerFault::NoSuchAccount);
-        }
+        user_within(self.chains(), chain, user)?;
         Ok(false)
     }
 

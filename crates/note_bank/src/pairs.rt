@@ -1,12 +1,12 @@
 // What is done with the places: finding a free one, joining two notes, freeing places.
 ghost use mathlib.Core.Path.{_≡_};
-ghost use mathlib.Core.Bool.{true, false};
+ghost use mathlib.Core.Bool.{true};
 ghost use mathlib.Core.List.{map};
 ghost use Prim.Native.Nat.{ℕ, _+_, _<_, _≤_};
 ghost use lib.ListN.{length, getD};
 ghost use Rattle.std.specs.Options.{isSome, Cases as BySome};
 ghost use Rattle.protocol.specs.House.{most};
-ghost use Rattle.note_bank.specs.Notes.{Proper, Alike, pair-of, amount-of, held, released};
+ghost use Rattle.note_bank.specs.Notes.{Proper, Alike, pair-of, amount-of, joint-note, held, released};
 ghost use Rattle.note_bank.specs.declared.place.Place.the-variants.{Free};
 use crate::place::Note;
 use crate::place::Place;
@@ -49,6 +49,18 @@ pub(crate) fn find_pair(places: &[Place]) -> (usize, usize)
     unreachable()
 }
 
+// Two notes of one owner and denomination as one.
+fn joint(first: Note, second: Note) -> Note
+    requires { ⌜ first .amount + second .amount ≤ most ⌝ }
+    ensures { λ r. ⌜ r ≡ joint-note first second ⌝ }
+{
+    Note {
+        owner: first.owner,
+        denomination: first.denomination,
+        amount: first.amount + second.amount,
+    }
+}
+
 // Joins two notes of one owner and denomination into the first, and frees the place of the second.
 pub(crate) fn join(places: &mut [Place], first: usize, second: usize)
     requires order { ⌜ first < second ⌝ }
@@ -61,11 +73,7 @@ pub(crate) fn join(places: &mut [Place], first: usize, second: usize)
     ensures notes { λ _. ⌜ Proper (now (places .exit)) ⌝ }
 {
     if let (Place::Held(kept), Place::Held(joined)) = (places[first], places[second]) {
-        places[first] = Place::Held(Note {
-            owner: kept.owner,
-            denomination: kept.denomination,
-            amount: kept.amount + joined.amount,
-        });
+        places[first] = Place::Held(joint(kept, joined));
         places[second] = Place::Free;
     }
 }

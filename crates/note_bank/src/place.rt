@@ -1,4 +1,3 @@
-ghost use mathlib.Core.Path.{_≡_};
 ghost use Rattle.note_bank.specs.Notes.{amount-of, note-in};
 use sums::Column;
 use sums::Row;

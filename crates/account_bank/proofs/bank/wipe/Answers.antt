@@ -3,10 +3,11 @@ use mathlib.Core.List.{List}
 use Prim.Native.Nat.{ℕ, _≤_}
 use native.Mathlib.Omega.{arith}
 use lib.ListN.{length}
+use Rattle.ledger.proofs.Lent.{lent-whole}
 use Rattle.protocol.specs.House.{most}
 use Rattle.protocol.specs.Ledger.{supply}
 use Rattle.account_bank.specs.Table.{table-balances, table-meaning}
-use Rattle.account_bank.proofs.Tables.{wiped-meaning, zero-supplies, lent-whole}
+use Rattle.account_bank.proofs.Tables.{wiped-meaning, zero-supplies}
 use Rattle.account_bank.proofs.bank.wipe.Needs as need
 
 pub returns : need.returns

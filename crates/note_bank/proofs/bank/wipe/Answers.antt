@@ -3,11 +3,12 @@ use mathlib.Core.List.{List}
 use Prim.Native.Nat.{ℕ, _≤_}
 use native.Mathlib.Omega.{arith}
 use lib.ListN.{length}
+use Rattle.ledger.proofs.Lent.{lent-whole}
 use Rattle.protocol.specs.House.{most}
 use Rattle.protocol.specs.Ledger.{supply}
 use Rattle.note_bank.specs.Notes.{Proper, note-balances, notes-meaning}
 use Rattle.note_bank.specs.declared.place.Place.{Place}
-use Rattle.note_bank.proofs.Shares.{freed-meaning, freed-supplies, free-proper, lent-whole}
+use Rattle.note_bank.proofs.Shares.{freed-meaning, freed-supplies, free-proper}
 use Rattle.note_bank.proofs.bank.wipe.Needs as need
 
 pub returns : need.returns

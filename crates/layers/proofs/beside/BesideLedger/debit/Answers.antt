@@ -1,4 +1,4 @@
-use mathlib.Core.Path.{_≡_, subst}
+use mathlib.Core.Path.{subst}
 use Rattle.std.specs.declared.result.Result.the-variants.{Ok}
 use Rattle.ledger.proofs.Answers.{handed-on, answered}
 use Rattle.layers.specs.Layers.{beside}

@@ -4,13 +4,14 @@ use Prim.Native.Nat.{ℕ, _<_, _≤_}
 use native.Mathlib.Omega.{arith}
 use lib.ListN.{length, getD}
 use Rattle.std.specs.Of.Vec.{vec-items}
+use Rattle.ledger.proofs.Lent.{lent-whole}
 use Rattle.protocol.specs.House.{most}
 use Rattle.protocol.specs.Ledger.{Balances, supply}
 use Rattle.note_bank.specs.Notes.{Proper, Alike, held, note-balances}
 use Rattle.note_bank.specs.declared.place.Place.{Place}
 use Rattle.note_bank.specs.declared.place.Place.the-variants.{Free}
 use Rattle.note_bank.proofs.Joins.{joint-fits}
-use Rattle.note_bank.proofs.Shares.{balances-same, lent-whole}
+use Rattle.note_bank.proofs.Shares.{balances-same}
 use Rattle.note_bank.proofs.bank.NoteBank.join.Needs as need
 
 -- the pair that was found can be joined

@@ -4,12 +4,13 @@ use Prim.Native.Nat.{ℕ, _<_, _≤_}
 use native.Mathlib.Omega.{arith}
 use lib.ListN.{length}
 use Rattle.std.proofs.shelf.Lists.{length-map}
+use Rattle.ledger.proofs.Lent.{lent-whole}
 use Rattle.protocol.specs.House.{most}
 use Rattle.protocol.specs.Ledger.{Balances, supply, put}
 use Rattle.ledger.proofs.Supplies.{supplies-kept}
 use Rattle.note_bank.specs.Notes.{Proper, released, held, note-balances}
 use Rattle.note_bank.specs.declared.place.Place.{Place}
-use Rattle.note_bank.proofs.Shares.{balances-put, held-released, proper-released, lent-whole}
+use Rattle.note_bank.proofs.Shares.{balances-put, held-released, proper-released}
 use Rattle.note_bank.proofs.bank.NoteBank.release.Needs as need
 
 module _ (xs ys : List Place) (a d : ℕ) (long : 1024 ≤ length xs) (ha : a < 24) (hd : d < 32) (e : ys ≡ map (released a d) xs) where
