@@ -9,7 +9,7 @@ ghost use Rattle.figures.specs.Figures.{over, spaced, Holds};
 ghost use Rattle.denom.specs.Views.{symbol-of};
 ghost use Rattle.protocol.specs.Calls.Answer.{done, says, home-is, no};
 ghost use Rattle.protocol.specs.Faults.{fault-number};
-ghost use Rattle.script.specs.Answers.{answer-words, answer-line, reply-answer, answer-of, layer-text};
+ghost use Rattle.commands.specs.Answers.{answer-words, answer-line, reply-answer, answer-of, layer-text};
 use super::replies::Reply;
 use denom::Symbol;
 use denom::TokenId;

@@ -8,7 +8,7 @@ use Rattle.figures.specs.Figures.{figure}
 use Rattle.figures.proofs.Digits.{length-figure-64}
 use Rattle.figures.proofs.Parts.{words-held}
 use Rattle.denom.specs.Views.{symbol-of}
-use Rattle.script.proofs.answers.write_home.Needs as need
+use Rattle.commands.proofs.answers.write_home.Needs as need
 
 pub figure-word-requires : need.figure-word-requires
 figure-word-requires c κs =

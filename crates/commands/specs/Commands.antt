@@ -16,12 +16,12 @@ use Rattle.denom.specs.Text.{is-symbol, denom-of}
 use Rattle.denom.specs.Views.{symbol-of, denom-view}
 use Rattle.protocol.specs.World.{is-strict}
 use Rattle.protocol.specs.Calls.{Call, open-link, issue, retire, pay, send, receive, ack, timeout, tick, bar, unbar, home}
 use Rattle.script.specs.Lines.{words, line-too-long, is-comment, well-formed}
-use Rattle.script.specs.declared.commands.Name.{Name}
-use Rattle.script.specs.declared.commands.Name.the-variants.{Open, Issue, Retire, Pay, Send, Receive, Ack, Timeout, Tick, Bar, Unbar, Home, Audit}
-use Rattle.script.specs.declared.commands.PacketId.{PacketId}
-use Rattle.script.specs.declared.commands.Command.{Command}
-use Rattle.script.specs.declared.commands.Command.the-variants as command
+use Rattle.commands.specs.declared.commands.Name.{Name}
+use Rattle.commands.specs.declared.commands.Name.the-variants.{Open, Issue, Retire, Pay, Send, Receive, Ack, Timeout, Tick, Bar, Unbar, Home, Audit}
+use Rattle.commands.specs.declared.commands.PacketId.{PacketId}
+use Rattle.commands.specs.declared.commands.Command.{Command}
+use Rattle.commands.specs.declared.commands.Command.the-variants as command
 
 -- what a line asks for: a call on the world, or an audit
 pub data Request : Type 0 where

@@ -8,8 +8,8 @@ use Rattle.figures.specs.Figures.{figure, spaced, Holds}
 use Rattle.figures.proofs.Digits.{length-figure-64}
 use Rattle.figures.proofs.Parts.{words-held}
 use Rattle.protocol.specs.Faults.{fault-number, layer-of}
-use Rattle.script.specs.Answers.{layer-text}
-use Rattle.script.proofs.answers.write_refusal.Needs as need
+use Rattle.commands.specs.Answers.{layer-text}
+use Rattle.commands.proofs.answers.write_refusal.Needs as need
 
 pub returns : need.returns
 returns c =

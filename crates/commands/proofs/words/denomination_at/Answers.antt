@@ -9,8 +9,8 @@ use Rattle.denom.specs.declared.types.TextFault.{TextFault}
 use Rattle.denom.specs.Denomination.{Denom}
 use Rattle.denom.specs.Text.{denom-of}
 use Rattle.denom.specs.Views.{denom-view, denom-answer}
-use Rattle.script.specs.Commands.{or-bad}
-use Rattle.script.proofs.words.denomination_at.Needs as need
+use Rattle.commands.specs.Commands.{or-bad}
+use Rattle.commands.proofs.words.denomination_at.Needs as need
 
 -- a denomination that is read is the word's
 read : (o : Option Denom) (e : Denom) → _≡_ {A = Result Denom TextFault} (Ok e) (denom-answer o) → _≡_ {A = Result Denom ℕ} (Ok e) (or-bad o)

@@ -5,14 +5,14 @@ ghost use Rattle.std.specs.Results.{mapped};
 ghost use Rattle.denom.specs.Views.{symbol-of, denom-view};
 ghost use Rattle.protocol.specs.Faults.{script-number};
 ghost use Rattle.protocol.specs.World.{is-strict};
-ghost use Rattle.script.specs.Commands.{name-of, words-of, number-word, denom-word, symbol-word, kind-word};
+ghost use Rattle.commands.specs.Commands.{name-of, words-of, number-word, denom-word, symbol-word, kind-word};
 use super::commands::Name;
-use super::lines::word_at;
 use denom::Denomination;
 use denom::Symbol;
 use figures::read_number;
 use protocol::LinkKind;
 use protocol::ScriptFault;
+use script::word_at;
 
 fn same_text(a: &[u8], b: &[u8]) -> bool
     ensures { λ r. ⌜ r ≡ sameBytes (now (a .entry)) (now (b .entry)) ⌝ }

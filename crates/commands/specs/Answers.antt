@@ -10,8 +10,8 @@ use Rattle.protocol.specs.declared.faults.Layer.{Layer}
 use Rattle.protocol.specs.declared.faults.Layer.the-variants.{Script, Book, Ledger, World}
 use Rattle.protocol.specs.Calls.{Answer, done, says, home-is, no, said}
 use Rattle.protocol.specs.Faults.{fault-number, layer-of}
-use Rattle.script.specs.declared.replies.Reply.{Reply}
-use Rattle.script.specs.declared.replies.Reply.the-variants.{Done, Number, Home}
+use Rattle.commands.specs.declared.replies.Reply.{Reply}
+use Rattle.commands.specs.declared.replies.Reply.the-variants.{Done, Number, Home}
 
 -- a layer by its name
 abbrev pub layer-text : Layer → List ℕ

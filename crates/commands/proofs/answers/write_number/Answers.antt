@@ -7,7 +7,7 @@ use lib.ListN.{length, take, length-take}
 use Rattle.figures.specs.Figures.{figure}
 use Rattle.figures.proofs.Digits.{length-figure-64}
 use Rattle.figures.proofs.Parts.{words-held}
-use Rattle.script.proofs.answers.write_number.Needs as need
+use Rattle.commands.proofs.answers.write_number.Needs as need
 
 pub figure-word-requires : need.figure-word-requires
 figure-word-requires c κs =

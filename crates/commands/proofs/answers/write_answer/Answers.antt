@@ -6,8 +6,8 @@ use borrow.Author.Needs.{needs}
 use lib.ListN.{length}
 use Rattle.figures.specs.Figures.{figure, spaced, over, Holds}
 use Rattle.figures.proofs.Digits.{length-figure-64}
-use Rattle.script.specs.Answers.{answer-words, answer-line, answer-of}
-use Rattle.script.proofs.answers.write_answer.Needs as need
+use Rattle.commands.specs.Answers.{answer-words, answer-line, answer-of}
+use Rattle.commands.proofs.answers.write_answer.Needs as need
 
 pub figure-requires : need.figure-requires
 figure-requires c κs =
