@@ -1,20 +1,27 @@
 ghost use mathlib.Core.Path.{_≡_};
+ghost use mathlib.Core.Bool.{true, false};
 ghost use mathlib.Core.List.{map};
-ghost use Prim.Native.Nat.{ℕ};
-ghost use lib.Dec.{leb};
+ghost use Prim.Native.Nat.{ℕ, _<_};
 ghost use lib.ListN.{length};
 ghost use Rattle.register.specs.Keys.{number-of, kept-number};
 ghost use Rattle.denom.specs.Denomination.{same-denom, same-token};
 ghost use Rattle.denom.specs.Views.{denom-view, token-view};
 ghost use Rattle.protocol.specs.House.{denoms-most, tokens-most};
-ghost use Rattle.world.specs.Registers.{joined};
-ghost use Rattle.world.specs.View.{denoms-in, tokens-in};
+ghost use Rattle.std.specs.Options.{isSome};
+ghost use Rattle.protocol.specs.Calls.{enrolled, token-known, token-enrolled};
+ghost use Rattle.world.specs.Registers.{joined, number-for};
+ghost use Rattle.world.specs.View.{denoms-in, denoms-of, tokens-in, view};
 use super::types::Denominations;
+use super::types::Tables;
 use super::types::Tokens;
+use super::world::World;
+use books::Book;
 use denom::Denomination;
 use denom::DenominationKey;
 use denom::TokenId;
 use denom::TokenIdKey;
+use ledger::Ledger;
+use protocol::DENOMINATIONS;
 use register::Register;
 use register::find_in;
 
@@ -87,5 +94,62 @@ impl Tokens {
         let count = register.count();
         self.count = count;
         number
+    }
+}
+
+impl Tables {
+    // How many denominations a chain has registered.
+    pub(crate) fn registered_on(&self, chain: usize) -> usize
+        requires { ⌜ chain < 8 ⌝ }
+        ensures { λ r. ⌜ r ≡ length (denoms-of (now (self .entry) .denominations) chain) ⌝ }
+    {
+        let row = &self.denominations[chain];
+        row.len()
+    }
+
+    // The number of a denomination on a chain, or nothing.
+    pub(crate) fn number_of(&self, chain: usize, denomination: &Denomination) -> Option<usize>
+        requires { ⌜ chain < 8 ⌝ }
+        ensures { λ r. ⌜ r ≡ number-of (same-denom (denom-view (now (denomination .entry)))) (denoms-of (now (self .entry) .denominations) chain) ⌝ }
+    {
+        let row = &self.denominations[chain];
+        row.number_of(denomination)
+    }
+
+    // The number that a denomination has on a chain or would get, or nothing where it is new and the register is full.
+    pub(crate) fn number_for(&self, chain: usize, denomination: &Denomination) -> Option<usize>
+        requires { ⌜ chain < 8 ⌝ }
+        ensures { λ r. ⌜ r ≡ number-for (denom-view (now (denomination .entry))) (denoms-of (now (self .entry) .denominations) chain) ⌝ }
+    {
+        match self.number_of(chain, denomination) {
+            Some(number) => Some(number),
+            None => {
+                let next = self.registered_on(chain);
+                if next >= DENOMINATIONS {
+                    return None;
+                }
+                Some(next)
+            }
+        }
+    }
+}
+
+impl<L: Ledger, F: Book, S: Book> World<L, F, S> {
+    // Registers a denomination on a chain, if it is new.
+    pub(crate) fn enrol(&mut self, chain: usize, denomination: &Denomination)
+        requires chain { ⌜ chain < 8 ⌝ }
+        requires room { ⌜ isSome (number-for (denom-view (now denomination)) (denoms-of (now self .tables .denominations) chain)) ≡ true ⌝ }
+        ensures { λ _. ⌜ view (L·Ledger .meaning) (F·Book .meaning) (S·Book .meaning) (now (self .exit)) ≡ enrolled (view (L·Ledger .meaning) (F·Book .meaning) (S·Book .meaning) (now (self .entry))) chain (denom-view (now (denomination .entry))) ⌝ }
+    {
+        let row = &mut self.tables.denominations[chain];
+        let _ = row.enter(*denomination);
+    }
+
+    // Registers a token, if it is new.
+    pub(crate) fn enrol_token(&mut self, token: &TokenId)
+        requires room { ⌜ (token-known (view (L·Ledger .meaning) (F·Book .meaning) (S·Book .meaning) (now self)) (token-view (now token)) ≡ false → length (tokens-in (now self .tables .tokens)) < 64) ⌝ }
+        ensures { λ _. ⌜ view (L·Ledger .meaning) (F·Book .meaning) (S·Book .meaning) (now (self .exit)) ≡ token-enrolled (view (L·Ledger .meaning) (F·Book .meaning) (S·Book .meaning) (now (self .entry))) (token-view (now (token .entry))) ⌝ }
+    {
+        let _ = self.tables.tokens.enter(*token);
     }
 }
