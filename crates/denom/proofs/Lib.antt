@@ -1,4 +1,5 @@
 pub mod Steps
+pub mod Shifts
 pub mod Back
 pub mod Same
 pub mod Bounds

@@ -1,6 +1,7 @@
 // Symbols, hops and denominations, and the texts that stand for them.
 mod keys;
 mod reader;
+mod traces;
 mod types;
 mod writer;
 

@@ -14,7 +14,7 @@ use Rattle.register.specs.Keys.{place, number-of}
 use Rattle.protocol.specs.World.{ends, numbers-from}
 use Rattle.protocol.specs.World as protocol
 use Rattle.world.specs.declared.types.Link.{Link}
-use Rattle.world.specs.View.{end-view, link-view, no-link}
+use Rattle.world.specs.View.{end-view, link-view}
 
 -- the ends of some links
 abbrev pub ends-of : List Link → List protocol.End
@@ -30,10 +30,14 @@ module _ (p : protocol.End → Bool) (ls : List Link) (i : ℕ) where
   Passed = place p (ends-of (drop i ls)) + 2 * i ≡ place p (ends-of ls)
 
   one-link :
-      i < length ls →
+      (l : Link) → i < length ls → l ≡ getD ls i l →
       place p (ends-of (drop i ls)) ≡
-      cond (p (end-view (getD ls i no-link .first))) 0 (suc (cond (p (end-view (getD ls i no-link .second))) 0 (suc (place p (ends-of (drop (i + 1) ls))))))
-  one-link h = at-drop-more (λ l. place p (ends-of l)) ls i no-link h
+      cond (p (end-view (l .first))) 0 (suc (cond (p (end-view (l .second))) 0 (suc (place p (ends-of (drop (i + 1) ls))))))
+  one-link l h read =
+      at-drop-more (λ l. place p (ends-of l)) ls i l h
+      ∙ ap
+      (λ (m : Link). cond (p (end-view (m .first))) 0 (suc (cond (p (end-view (m .second))) 0 (suc (place p (ends-of (drop (i + 1) ls)))))))
+      (sym read)
 
   -- where the place is known, so is the answer
   found-at : (n : ℕ) → place p (ends-of ls) ≡ n → n < 2 * length ls → Some n ≡ number-of p (ends-of ls)
@@ -41,27 +45,27 @@ module _ (p : protocol.End → Bool) (ls : List Link) (i : ℕ) where
       let inside : ltb (place p (ends-of ls)) (length (ends-of ls)) ≡ true = lt-ltb (place p (ends-of ls)) (length (ends-of ls)) (omega (arith, length-ends-of ls)) in
       sym (rw (inside, e) refl)
 
-  pub first-end : i < length ls → Passed → p (end-view (getD ls i no-link .first)) ≡ true → Some (2 * i) ≡ number-of p (ends-of ls)
-  first-end h inv e =
-      let here : place p (ends-of (drop i ls)) ≡ 0 = rw e at (one-link h) in
+  pub first-end : (l : Link) → i < length ls → l ≡ getD ls i l → Passed → p (end-view (l .first)) ≡ true → Some (2 * i) ≡ number-of p (ends-of ls)
+  first-end l h read inv e =
+      let here : place p (ends-of (drop i ls)) ≡ 0 = rw e at (one-link l h read) in
       found-at (2 * i) (omega (arith, here, inv)) (omega arith)
 
   pub second-end :
-      i < length ls → Passed → p (end-view (getD ls i no-link .first)) ≡ false → p (end-view (getD ls i no-link .second)) ≡ true →
+      (l : Link) → i < length ls → l ≡ getD ls i l → Passed → p (end-view (l .first)) ≡ false → p (end-view (l .second)) ≡ true →
       Some (2 * i + 1) ≡ number-of p (ends-of ls)
-  second-end h inv e f =
-      let here : place p (ends-of (drop i ls)) ≡ 1 = rw (e, f) at (one-link h) in
+  second-end l h read inv e f =
+      let here : place p (ends-of (drop i ls)) ≡ 1 = rw (e, f) at (one-link l h read) in
       found-at (2 * i + 1) (omega (arith, here, inv)) (omega arith)
 
   neither-end :
-      i < length ls → p (end-view (getD ls i no-link .first)) ≡ false → p (end-view (getD ls i no-link .second)) ≡ false →
+      (l : Link) → i < length ls → l ≡ getD ls i l → p (end-view (l .first)) ≡ false → p (end-view (l .second)) ≡ false →
       place p (ends-of (drop i ls)) ≡ suc (suc (place p (ends-of (drop (i + 1) ls))))
-  neither-end h e f = rw (e, f) at (one-link h)
+  neither-end l h read e f = rw (e, f) at (one-link l h read)
 
 pub passed-more :
-    (p : protocol.End → Bool) (ls : List Link) (i : ℕ) → i < length ls → Passed p ls i →
-    p (end-view (getD ls i no-link .first)) ≡ false → p (end-view (getD ls i no-link .second)) ≡ false → Passed p ls (i + 1)
-passed-more p ls i h inv e f = omega (arith, neither-end p ls i h e f, inv)
+    (p : protocol.End → Bool) (ls : List Link) (i : ℕ) (l : Link) → i < length ls → l ≡ getD ls i l → Passed p ls i →
+    p (end-view (l .first)) ≡ false → p (end-view (l .second)) ≡ false → Passed p ls (i + 1)
+passed-more p ls i l h read inv e f = omega (arith, neither-end p ls i l h read e f, inv)
 
 pub passed-all : (p : protocol.End → Bool) (ls : List Link) (i : ℕ) → length ls ≤ i → i ≤ length ls → Passed p ls i → None ≡ number-of p (ends-of ls)
 passed-all p ls i past within inv =

@@ -2,7 +2,7 @@
 use mathlib.Core.Bool.{Bool, true, false, cond}
 use mathlib.Core.List.{List, [], map}
 use Prim.Native.Nat.{ℕ}
-use lib.Dec.{ltb, lit≤}
+use lib.Dec.{ltb, lit<, lit≤}
 use lib.ListN.{getD, take}
 use Rattle.denom.specs.Denomination.{Denom, Token}
 use Rattle.denom.specs.Views.{denom-view, token-view}
@@ -64,9 +64,13 @@ tokens-in t = map token-view (take (t .count) (t .keys))
 abbrev pub links-in : Links → List protocol.Link
 links-in l = map link-view (take (l .count) (l .rows))
 
+-- what is read where there is no end
+abbrev pub no-end : End
+no-end = record { chain = 0; channel = 0; chains = lit< tt; channels = lit< tt }
+
 -- what is read where there is no link
 abbrev pub no-link : Link
-no-link = record { first = record { chain = 0; channel = 0 }; second = record { chain = 0; channel = 0 }; kind = Free; closed = false }
+no-link = record { first = no-end; second = no-end; kind = Free; closed = false }
 
 -- whether link i is there and closed
 abbrev pub closed-in : Links → ℕ → Bool

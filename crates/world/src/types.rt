@@ -1,13 +1,15 @@
-ghost use Prim.Native.Nat.{_≤_};
+ghost use Prim.Native.Nat.{_≤_, _<_};
 use denom::Denomination;
 use denom::TokenId;
 use protocol::LinkKind;
 
-/// An end of a link: a channel of a chain.
+/// An end of a link: a channel 0 to 7 of a chain 0 to 7.
 #[derive(Clone, Copy)]
 pub struct End {
     pub chain: usize,
     pub channel: usize,
+    ghost chains: { chain < 8 },
+    ghost channels: { channel < 8 },
 }
 
 /// Two ends, the kind of the link between them, and whether it has been closed.

@@ -5,6 +5,12 @@ use Rattle.world.specs.View.{link-view}
 use Rattle.world.proofs.Rows.{row-pushed, still-closed, length-rows}
 use Rattle.world.proofs.types.Links.push.Needs as need
 
+-- there is room for one more
+pub ghost-self : need.ghost-self
+ghost-self c =
+    let links = c .args .self .now in
+    (omega (arith, c .pre .room, links .few, length-rows link-view (links .rows) (links .count) (omega (arith, links .few))), tt)
+
 pub returns : need.returns
 returns c =
     let links = c .args .self .now in

@@ -1,0 +1,20 @@
+use mathlib.Core.Path.{_≡_, sym, ap, _∙_}
+use Prim.Native.Nat.{_<_}
+use native.Mathlib.Omega.{arith}
+use lib.ListN.{length}
+use Rattle.std.proofs.shelf.Lists.{getD-default}
+use Rattle.register.specs.Keys.{number-of}
+use Rattle.denom.specs.Denomination.{same-denom}
+use Rattle.denom.specs.Views.{denom-view}
+use Rattle.world.specs.declared.types.Denominations.{Denominations}
+use Rattle.world.specs.View.{denoms-in, no-denominations}
+use Rattle.world.proofs.types.Tables.number_of.Needs as need
+
+pub returns : need.returns
+returns c =
+    let rows = c .args .self .now .denominations in
+    let within : c .args .chain < length rows = omega arith in
+    c .number-of .ensures
+    ∙ ap
+    (λ (r : Denominations). number-of (same-denom (denom-view (c .args .denomination .now))) (denoms-in r))
+    (getD-default rows (c .args .chain) (c .index-self-chain .result) no-denominations within)
