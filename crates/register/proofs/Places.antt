@@ -9,7 +9,7 @@ use native.Mathlib.Nat.{add-zero}
 use borrow.Author.Tests.{lt-ltb, le-ltb, ltb-true, ltb-false}
 use lib.Dec.{ltb}
 use lib.ListN.{length, getD, take, drop, set, length-map}
-use Rattle.std.specs.Options.{isSome}
+use Rattle.std.specs.Options.{isSome, Cases}
 use Rattle.std.specs.declared.option.Option.{Option}
 use Rattle.std.specs.declared.option.Option.the-variants.{Some, None}
 use Rattle.std.proofs.shelf.Lists.{at-drop-more, at-drop-all, getD-append-left, getD-push, length-push, take-more-set}
@@ -123,3 +123,14 @@ some-found p xs = go (found p xs)
     go : (b : Bool) → isSome (cond b (Some (place p xs)) None) ≡ b
     go true = refl
     go false = refl
+
+-- a number that is answered is below the length
+pub number-below : {K : Type 0} (p : K → Bool) (xs : List K) (m : ℕ) → length xs ≤ m → (o : Option ℕ) → o ≡ number-of p xs → Cases o (Unit {0}) (λ n. n < m)
+number-below p xs m few None e = tt
+number-below p xs m few (Some n) e = go (found p xs) refl e
+  where
+    go : (b : Bool) → found p xs ≡ b → _≡_ {A = Option ℕ} (Some n) (cond b (Some (place p xs)) None) → n < m
+    go true t f =
+        let is : n ≡ place p xs = cc in
+        omega (arith, is, ltb-true (place p xs) (length xs) t)
+    go false t f = let z : _≡_ {A = ℕ} 0 1 = cc in absurd (omega arith)

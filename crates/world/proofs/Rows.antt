@@ -7,12 +7,14 @@ use Prim.Native.Nat.{ℕ, suc, _+_, _<_, _≤_}
 use native.Mathlib.Omega.{arith}
 use borrow.Author.Tests.{lt-ltb, le-ltb}
 use lib.Dec.{ltb}
-use lib.ListN.{length, getD, take, set, length-map}
+use lib.ListN.{length, getD, take, set, length-map, length-take}
 use lib.Seq.{getD-set-same, getD-set-other, length-take-le}
 use Rattle.std.proofs.shelf.Lists.{map-push, take-more-set}
 use Rattle.std.proofs.str.Laws.{order}
 use Rattle.world.specs.declared.types.Link.{Link}
-use Rattle.world.specs.View.{no-link}
+use Rattle.denom.specs.Views.{denom-view}
+use Rattle.world.specs.declared.types.Denominations.{Denominations}
+use Rattle.world.specs.View.{no-link, no-denominations, denoms-of}
 
 -- one row more
 pub row-pushed : {X Y : Type 0} (f : X → Y) (rows : List X) (n : ℕ) (x : X) → n < length rows → map f (take (n + 1) (set rows n x)) ≡ map f (take n rows) ++ f x ∷ []
@@ -39,3 +41,9 @@ still-closed rows n x h e i =
 -- as many rows as are taken, in a table that has so many
 pub length-rows : {X Y : Type 0} (f : X → Y) (rows : List X) (n : ℕ) → n ≤ length rows → length (map f (take n rows)) ≡ n
 length-rows f rows n h = length-map (take n rows) f ∙ length-take-le n rows h
+
+-- a chain's register has at most 32 denominations
+pub few-denoms : (rows : List Denominations) (c : ℕ) → length (denoms-of rows c) ≤ 32
+few-denoms rows c =
+    let row = getD rows c no-denominations in
+    omega (arith, row .few, length-map (take (row .count) (row .keys)) denom-view, length-take (row .count) (row .keys))

@@ -1,4 +1,5 @@
 // A world: chains, links, packets and registers over any ledger and any two books, and every call on it.
+mod accounts;
 mod links;
 mod registers;
 mod tables;
