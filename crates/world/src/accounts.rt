@@ -60,6 +60,34 @@ impl<L: Ledger, F: Book, S: Book> World<L, F, S> {
         Ok(())
     }
 
+    /// Moves an amount from one user of a chain to another, or to the same one, which alters nothing.
+    pub fn pay(
+        &mut self,
+        chain: usize,
+        user: usize,
+        payee: usize,
+        denomination: &Denomination,
+        amount: u64,
+    ) -> Result<(), WorldFault>
+        ensures answer { λ r. ⌜ said (λ _. done) world-number r ≡ step (view (L·Ledger .meaning) (F·Book .meaning) (S·Book .meaning) (now (self .entry))) (pay chain user payee (denom-view (now (denomination .entry))) amount) .1 ⌝ }
+        ensures after { λ r. ⌜ view (L·Ledger .meaning) (F·Book .meaning) (S·Book .meaning) (now (self .exit)) ≡ step (view (L·Ledger .meaning) (F·Book .meaning) (S·Book .meaning) (now (self .entry))) (pay chain user payee (denom-view (now (denomination .entry))) amount) .0 ⌝ }
+    {
+        if !self.serves(chain) {
+            return Err(WorldFault::NoSuchChain);
+        }
+        if user >= USERS || payee >= USERS {
+            return Err(WorldFault::NoSuchUser);
+        }
+        if amount == 0 {
+            return Err(WorldFault::AmountOrStepZero);
+        }
+        let Some(number) = self.tables.known(chain, denomination) else {
+            return Err(WorldFault::NotRegistered);
+        };
+        self.ledger.transfer(chain, user, payee, number, amount)?;
+        Ok(())
+    }
+
     /// Bars a user.
     pub fn bar(&mut self, chain: usize, user: usize) -> Result<(), WorldFault>
         ensures answer { λ r. ⌜ said (λ _. done) world-number r ≡ step (view (L·Ledger .meaning) (F·Book .meaning) (S·Book .meaning) (now (self .entry))) (bar chain user) .1 ⌝ }
