@@ -1,3 +1,5 @@
+pub mod Counts
+pub mod Directions
 pub mod Ends
 pub mod Kept
 pub mod Rows

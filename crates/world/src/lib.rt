@@ -1,5 +1,7 @@
 // A world: chains, links, packets and registers over any ledger and any two books, and every call on it.
+mod lanes;
 mod links;
+mod packets;
 mod registers;
 mod tables;
 mod types;
