@@ -33,3 +33,12 @@ module _ {X : Type 0} (p : X → Bool) (xs : List X) where
 pub count-map : {X Y : Type 0} (f : X → Y) (p : Y → Bool) (xs : List X) → count p (map f xs) ≡ count (λ x. p (f x)) xs
 count-map f p [] = refl
 count-map f p (x ∷ xs) = ap (λ n. gate (p (f x)) 1 + n) (count-map f p xs)
+
+-- no more rows pass than there are
+pub count-le : {X : Type 0} (p : X → Bool) (xs : List X) → count p xs ≤ length xs
+count-le p [] = omega arith
+count-le p (x ∷ xs) = go (p x) (count-le p xs)
+  where
+    go : (b : Bool) → count p xs ≤ length xs → gate b 1 + count p xs ≤ length (x ∷ xs)
+    go true h = omega arith
+    go false h = omega arith

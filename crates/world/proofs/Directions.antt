@@ -4,16 +4,22 @@ use mathlib.Core.Bool.{Bool, true, false, cond, _&&_}
 use mathlib.Core.List.{List, [], _∷_, map}
 use Prim.Native.Nat.{ℕ, zero, suc, _+_, _-_, _*_, _/_, _%_, _<_, _≤_}
 use native.Mathlib.Omega.{arith}
+use borrow.Author.Tests.{ltb-true}
 use lib.Dec.{eqb, ltb, leb}
 use lib.ListN.{length, getD, take}
 use Rattle.std.proofs.shelf.Lists.{getD-default}
 use Rattle.std.proofs.shelf.Ways.{tells}
-use Rattle.protocol.specs.World.{End, ends, no-end, back, lane}
+use Rattle.std.specs.declared.option.Option.the-variants.{Some}
+use Rattle.register.specs.Keys.{number-of, found}
+use Rattle.protocol.specs.World.{ends, no-end, back, lane, lane-out, same-end, end-at, from-end, to-end}
+use Rattle.protocol.proofs.Places.{place-hit, same-end-true}
 use Rattle.protocol.specs.World as protocol
 use Rattle.world.specs.declared.types.Link.{Link}
 use Rattle.world.specs.declared.types.Links.{Links}
 use Rattle.world.specs.View.{link-view, no-link, links-in, closed-in}
-use Rattle.world.specs.Routes.{is-lane, Leads}
+use Rattle.world.specs.declared.types.Route.{Route}
+use Rattle.world.specs.Routes.{is-lane, Leads, Leads-out}
+use Rattle.world.proofs.Kept.{number-some}
 use Rattle.world.proofs.Rows.{row-at, rows-few, length-rows}
 
 ends-even : (ls : List protocol.Link) (i : ℕ) → getD (ends ls) (2 * i) no-end ≡ getD ls i protocol.no-link .end₀
@@ -88,3 +94,37 @@ pub not-there : (t : Links) (l d : ℕ) → t .count ≤ l → is-lane (links-in
 not-there t l d h =
     let few : length (links-in t) ≤ t .count = rows-few link-view (t .rows) (t .count) in
     grind (arith, tells)
+
+length-ends : (ls : List protocol.Link) → length (ends ls) ≡ 2 * length ls
+length-ends [] = refl
+length-ends (l ∷ ls) = omega (arith, length-ends ls)
+
+-- The lane that leads out by a channel, and the route that it is.
+module _ (ls : List protocol.Link) (closed : ℕ → Bool) (c k n : ℕ) (out : number-of (same-end (end-at c k)) (ends ls) ≡ Some n) where
+  at-place : (found (same-end (end-at c k)) (ends ls) ≡ true) × (lane-out ls c k ≡ n)
+  at-place = number-some (same-end (end-at c k)) (ends ls) n out
+
+  its-lane : lane (n / 2) (n % 2) ≡ n
+  its-lane = omega arith
+
+  pub route-there : is-lane ls (n / 2) (n % 2) ≡ true
+  route-there =
+      let within = ltb-true (lane-out ls c k) (length (ends ls)) (at-place .0) in
+      let below : n / 2 < length ls = omega (arith, within, at-place .1, length-ends ls) in
+      let one : n % 2 ≤ 1 = omega arith in
+      grind (arith, tells)
+
+  pub out-route : (r : Route) → Leads ls closed (n / 2) (n % 2) r → Leads-out ls closed c k r
+  out-route r leads =
+      let same = its-lane ∙ sym (at-place .1) in
+      let hit =
+      same-end-true (end-at c k) (from-end ls (lane-out ls c k))
+      (place-hit (same-end (end-at c k)) (ends ls) no-end (ltb-true (lane-out ls c k) (length (ends ls)) (at-place .0)))
+      in
+      record {
+        used = at-place .0;
+        lane-is = leads .lane-is ∙ same;
+        near = leads .near ∙ ap (from-end ls) same ∙ sym hit;
+        far = leads .far ∙ ap (to-end ls) same;
+        closed-is = leads .closed-is ∙ ap (λ i. closed (i / 2)) (sym (at-place .1));
+      }

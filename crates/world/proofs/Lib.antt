@@ -4,3 +4,4 @@ pub mod Ends
 pub mod Kept
 pub mod Rows
 pub mod Verdicts
+pub mod Sendings

@@ -6,7 +6,7 @@ use Prim.Native.Nat.{ℕ, _/_, _<_}
 use lib.Dec.{leb, ltb}
 use lib.ListN.{length, getD}
 use Rattle.protocol.specs.House.{lanes-most}
-use Rattle.protocol.specs.World.{Link, lane, from-end, to-end, no-link, is-strict}
+use Rattle.protocol.specs.World.{Link, lane, from-end, to-end, end-at, lane-out, in-use, no-link, is-strict}
 use Rattle.world.specs.declared.types.Route.{Route}
 use Rattle.world.specs.View.{end-view}
 
@@ -24,3 +24,11 @@ pub record Leads (ls : List Link) (closed : ℕ → Bool) (l d : ℕ) (r : Route
   pub kind : is-strict (r .kind) ≡ getD ls (lane l d / 2) no-link .kind
   pub closed-is : r .closed ≡ closed l
   pub low : lane l d < lanes-most
+
+-- the route leads out by channel k of chain c
+pub record Leads-out (ls : List Link) (closed : ℕ → Bool) (c k : ℕ) (r : Route) : Type 0 where
+  pub used : in-use ls c k ≡ true
+  pub lane-is : r .lane ≡ lane-out ls c k
+  pub near : end-view (r .near) ≡ end-at c k
+  pub far : end-view (r .far) ≡ to-end ls (lane-out ls c k)
+  pub closed-is : r .closed ≡ closed (lane-out ls c k / 2)

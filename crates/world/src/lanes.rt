@@ -4,8 +4,10 @@ ghost use Prim.Native.Nat.{ℕ, _<_};
 ghost use lib.Dec.{eqb, leb};
 ghost use lib.ListN.{getD};
 ghost use Rattle.std.specs.Options.{Cases as BySome};
-ghost use Rattle.world.specs.Routes.{is-lane, Leads};
+ghost use Rattle.protocol.specs.World.{in-use};
+ghost use Rattle.world.specs.Routes.{is-lane, Leads, Leads-out};
 ghost use Rattle.world.specs.View.{links-in, closed-in};
+use super::links::lane_out;
 use super::types::Links;
 use super::types::Route;
 use super::types::Tables;
@@ -38,6 +40,16 @@ impl Links {
             }),
             _ => None,
         }
+    }
+
+    // The direction that leads out by a channel of a chain, if that channel is in use.
+    pub(crate) fn route_out(&self, chain: usize, channel: usize) -> Option<Route>
+        ensures { λ r. ⌜ BySome r (in-use (links-in (now (self .entry))) chain channel ≡ false) (λ q. Leads-out (links-in (now (self .entry))) (closed-in (now (self .entry))) chain channel q) ⌝ }
+    {
+        let Some(lane) = lane_out(self.as_slice(), chain, channel) else {
+            return None;
+        };
+        self.route(lane / 2, lane % 2)
     }
 }
 

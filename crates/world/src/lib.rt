@@ -3,6 +3,7 @@ mod lanes;
 mod links;
 mod packets;
 mod registers;
+mod send;
 mod tables;
 mod types;
 mod world;
