@@ -5,3 +5,4 @@ pub mod Kept
 pub mod Rows
 pub mod Verdicts
 pub mod Sendings
+pub mod Steps

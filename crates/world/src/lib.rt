@@ -2,6 +2,7 @@
 mod lanes;
 mod links;
 mod packets;
+mod receipts;
 mod registers;
 mod send;
 mod tables;
