@@ -1,5 +1,9 @@
+pub mod Counts
+pub mod Directions
 pub mod Ends
 pub mod Kept
 pub mod Rows
 pub mod Verdicts
 pub mod Issuing
+pub mod Sendings
+pub mod Steps

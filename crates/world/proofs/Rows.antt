@@ -3,18 +3,26 @@ use mathlib.Core.Path.{_≡_, refl, sym, ap, _∙_}
 use mathlib.Core.Bool.{Bool, true, false, cond}
 use mathlib.Core.List.{List, [], _∷_, _++_, map}
 use mathlib.Core.Logic.{⊎-elim, _≢_}
-use Prim.Native.Nat.{ℕ, suc, _+_, _<_, _≤_}
+use Prim.Native.Nat.{ℕ, zero, suc, _+_, _<_, _≤_}
 use native.Mathlib.Omega.{arith}
 use borrow.Author.Tests.{lt-ltb, le-ltb}
 use lib.Dec.{ltb}
+use native.Mathlib.Nat.{min-le-left, min-le-right}
 use lib.ListN.{length, getD, take, set, length-map, length-take}
 use lib.Seq.{getD-set-same, getD-set-other, length-take-le}
-use Rattle.std.proofs.shelf.Lists.{map-push, take-more-set}
+use Rattle.std.proofs.shelf.Lists.{map-push, map-set, take-more-set, getD-map, getD-take}
 use Rattle.std.proofs.str.Laws.{order}
 use Rattle.world.specs.declared.types.Link.{Link}
 use Rattle.denom.specs.Views.{denom-view}
 use Rattle.world.specs.declared.types.Denominations.{Denominations}
 use Rattle.world.specs.View.{no-link, no-denominations, denoms-of}
+
+-- a row replaced among those that are taken
+take-of-set : {X : Type 0} (rows : List X) (n i : ℕ) (x : X) → i < n → take n (set rows i x) ≡ set (take n rows) i x
+take-of-set rows zero i x h = absurd (omega arith)
+take-of-set [] (suc n) i x h = refl
+take-of-set (r ∷ rows) (suc n) zero x h = refl
+take-of-set {X} (r ∷ rows) (suc n) (suc i) x h = ap (λ (l : List X). r ∷ l) (take-of-set rows n i x (omega arith))
 
 -- one row more
 pub row-pushed : {X Y : Type 0} (f : X → Y) (rows : List X) (n : ℕ) (x : X) → n < length rows → map f (take (n + 1) (set rows n x)) ≡ map f (take n rows) ++ f x ∷ []
@@ -47,3 +55,32 @@ pub few-denoms : (rows : List Denominations) (c : ℕ) → length (denoms-of row
 few-denoms rows c =
     let row = getD rows c no-denominations in
     omega (arith, row .few, length-map (take (row .count) (row .keys)) denom-view, length-take (row .count) (row .keys))
+
+-- a row that is taken stands in the table, among those that are taken
+pub row-within : {X Y : Type 0} (f : X → Y) (rows : List X) (n i : ℕ) → i < length (map f (take n rows)) → (i < n) × (i < length rows)
+row-within f rows n i h =
+    let all = length-map (take n rows) f in
+    let some = length-take n rows in (omega (arith, min-le-left n (length rows)), omega (arith, min-le-right n (length rows)))
+
+-- one of the rows that are taken
+pub row-at :
+    {X Y : Type 0} (f : X → Y) (rows : List X) (n i : ℕ) (x : X) (d : Y) → i < length (map f (take n rows)) →
+    f (getD rows i x) ≡ getD (map f (take n rows)) i d
+row-at f rows n i x d h =
+    let inside = row-within f rows n i h in
+    let front : i < length (take n rows) = omega (arith, length-map (take n rows) f) in
+    ap f (sym (getD-take n rows i x (inside .0))) ∙ sym (getD-map f (take n rows) i x d front)
+
+-- one of the rows that are taken replaced by what g makes of it
+pub row-changed :
+    {X Y : Type 0} (f : X → Y) (g : Y → Y) (rows : List X) (n i : ℕ) (x y : X) (d : Y) → i < length (map f (take n rows)) →
+    f y ≡ g (f (getD rows i x)) →
+    map f (take n (set rows i y)) ≡ set (map f (take n rows)) i (g (getD (map f (take n rows)) i d))
+row-changed f g rows n i x y d h e =
+    ap (map f) (take-of-set rows n i y (row-within f rows n i h .0))
+    ∙ map-set f (take n rows) i y
+    ∙ ap (set (map f (take n rows)) i) (e ∙ ap g (row-at f rows n i x d h))
+
+-- no more rows than are taken
+pub rows-few : {X Y : Type 0} (f : X → Y) (rows : List X) (n : ℕ) → length (map f (take n rows)) ≤ n
+rows-few f rows n = omega (arith, length-map (take n rows) f, length-take n rows, min-le-left n (length rows))

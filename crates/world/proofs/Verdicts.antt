@@ -4,7 +4,8 @@ use Prim.Native.Nat.{ℕ}
 use native.Mathlib.Omega.{arith}
 use Rattle.std.specs.declared.option.Option.{Option}
 use Rattle.std.specs.declared.option.Option.the-variants.{Some, None}
-use Rattle.protocol.specs.Refusals.{first}
+use Rattle.std.specs.declared.result.Result.the-variants.{Err}
+use Rattle.protocol.specs.Refusals.{first, unless-refused}
 use Rattle.protocol.specs.World.{World}
 use Rattle.protocol.specs.Calls.{Call, open-link, issue, retire, pay, send, receive, ack, timeout, tick, bar, unbar, home, Answer, no, refusals, outcome, settled-by, step}
 
@@ -36,3 +37,8 @@ refused-keeps w k n e = go (first (refusals w k)) e
     go : (o : Option ℕ) → no n ≡ settled-by o w (outcome w k) .1 → settled-by o w (outcome w k) .0 ≡ w
     go None f = absurd (outcome-not-no w k n f)
     go (Some m) f = refl
+
+-- a part that answers a fault met the refusal of that number
+pub refused-from-err : {X : Type 0} (o : Option ℕ) (x : X) (n : ℕ) → unless-refused o x ≡ Err n → o ≡ Some n
+refused-from-err None x n e = let z : _≡_ {A = ℕ} 0 1 = cc in absurd (omega arith)
+refused-from-err (Some m) x n e = cc

@@ -1,7 +1,11 @@
 // A world: chains, links, packets and registers over any ledger and any two books, and every call on it.
 mod accounts;
+mod lanes;
 mod links;
+mod packets;
+mod receipts;
 mod registers;
+mod send;
 mod tables;
 mod types;
 mod world;

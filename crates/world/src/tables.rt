@@ -50,7 +50,7 @@ impl Tables {
             packets: Packets {
                 rows: [Packet {
                     lane: 0,
-                    sequence: 0,
+                    sequence: 1,
                     sender: 0,
                     receiver: 0,
                     denomination: blank,

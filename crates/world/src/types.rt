@@ -28,7 +28,7 @@ pub enum Standing {
     Stands,
 }
 
-/// A packet as it was sent, and its standing.
+/// A packet as it was sent, and its standing. Sequences are 1 to 512.
 #[derive(Clone, Copy)]
 pub struct Packet {
     pub lane: usize,
@@ -39,6 +39,36 @@ pub struct Packet {
     pub amount: u64,
     pub timeout: u64,
     pub standing: Standing,
+    ghost first: { 1 ≤ sequence },
+    ghost last: { sequence ≤ 512 },
+}
+
+// What comes to a packet, with what the rest of the world says of it: whether its timeout height is reached, and whether a
+// lower packet of a strict lane stands before it.
+#[derive(Clone, Copy)]
+pub(crate) enum Event {
+    Receipt { expired: bool },
+    Acknowledgement { blocked: bool },
+    Timeout { expired: bool },
+}
+
+// What an event comes to that a packet admits.
+#[derive(Clone, Copy)]
+pub(crate) enum Effect {
+    Arrives,
+    Ends,
+    EndsWithRefund,
+}
+
+// One direction of an opened link: its lane, the ends that it leads from and to, and the link's kind and whether it is closed.
+#[derive(Clone, Copy)]
+pub(crate) struct Route {
+    pub(crate) link: usize,
+    pub(crate) lane: usize,
+    pub(crate) near: End,
+    pub(crate) far: End,
+    pub(crate) kind: LinkKind,
+    pub(crate) closed: bool,
 }
 
 /// A chain's denominations in order of registration.
