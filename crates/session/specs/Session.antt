@@ -1,0 +1,34 @@
+-- What a line of a script does to a world, and what it answers.
+use mathlib.Core.List.{List}
+use Prim.Native.Nat.{ℕ}
+use Rattle.std.specs.declared.option.Option.{Option}
+use Rattle.std.specs.declared.option.Option.the-variants.{Some, None}
+use Rattle.std.specs.declared.result.Result.{Result}
+use Rattle.std.specs.declared.result.Result.the-variants.{Ok, Err}
+use Rattle.protocol.specs.World.{World}
+use Rattle.protocol.specs.Calls.{Call, open-link, issue, retire, pay, send, receive, ack, timeout, tick, bar, unbar, home, Answer, no, step}
+use Rattle.commands.specs.Commands.{Request, call, audit, parsed}
+
+-- A request that is not served yet is refused like an unknown command.
+abbrev pub not-yet : World → World × Answer
+not-yet w = (w, no 3)
+
+-- what a call comes to
+abbrev pub called : World → Call → World × Answer
+called w (open-link a b k) = step w (open-link a b k)
+called w (issue c u s n) = step w (issue c u s n)
+called w (retire c u e n) = step w (retire c u e n)
+called w (pay c u v e n) = step w (pay c u v e n)
+called w (send c k u v e n t) = step w (send c k u v e n t)
+called w (receive l d s) = not-yet w
+called w (ack l d s) = not-yet w
+called w (timeout l d s) = not-yet w
+called w (tick c n) = step w (tick c n)
+called w (bar c u) = step w (bar c u)
+called w (unbar c u) = step w (unbar c u)
+called w (home c e) = not-yet w
+
+-- what a request comes to
+abbrev pub performed : World → Request → World × Answer
+performed w (call k) = called w k
+performed w audit = not-yet w
