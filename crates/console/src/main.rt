@@ -6,12 +6,10 @@ use books::FreeBook;
 use books::FreeBookBook;
 use books::StrictBook;
 use books::StrictBookBook;
-use commands::Command;
 use commands::MOST_ANSWER;
 use commands::MOST_SCRIPT;
 use commands::Reply;
 use commands::is_too_long;
-use commands::parse_line;
 use commands::write_answer;
 use layers::Barring;
 use layers::BarringLedger;
@@ -22,10 +20,8 @@ use note_bank::NoteBank;
 use note_bank::NoteBankLedger;
 use note_bank::Place;
 use protocol::Fault;
-use protocol::FaultFromScript;
-use protocol::FaultFromWorld;
-use protocol::ScriptFault;
 use script::Script;
+use session::carry_out;
 use std::error::AnyError;
 use std::io;
 use std::io::BufWriter;
@@ -47,42 +43,6 @@ fn fill(input: &mut impl Read, buffer: &mut [u8]) -> io::Result<usize> {
         len += got;
     }
     Ok(len)
-}
-
-// Carries out one command.
-fn perform<L: Ledger, F: Book, S: Book>(
-    world: &mut World<L, F, S>,
-    command: Command,
-) -> Result<Reply, Fault> {
-    match command {
-        Command::Open {
-            first,
-            second,
-            kind,
-        } => {
-            let link = world.open(first, second, kind)?;
-            Ok(Reply::Number(link as u64))
-        }
-        Command::Tick { chain, step } => {
-            world.tick(chain, step)?;
-            Ok(Reply::Done)
-        }
-        _ => Err(Fault::Script(ScriptFault::UnknownCommand)),
-    }
-}
-
-// Carries out the command on a line, if there is one.
-fn carry_out<L: Ledger, F: Book, S: Book>(
-    world: &mut World<L, F, S>,
-    line: &[u8],
-) -> Result<Option<Reply>, Fault> {
-    match parse_line(line)? {
-        Some(command) => {
-            let reply = perform(world, command)?;
-            Ok(Some(reply))
-        }
-        None => Ok(None),
-    }
 }
 
 // Writes the answer to a line.

@@ -5,8 +5,12 @@ use Rattle.std.specs.declared.option.Option.{Option}
 use Rattle.std.specs.declared.option.Option.the-variants.{Some, None}
 use Rattle.std.specs.declared.result.Result.{Result}
 use Rattle.std.specs.declared.result.Result.the-variants.{Ok, Err}
+use Rattle.protocol.specs.declared.faults.Fault.{Fault}
+use Rattle.protocol.specs.Faults.{fault-number}
 use Rattle.protocol.specs.World.{World}
 use Rattle.protocol.specs.Calls.{Call, open-link, issue, retire, pay, send, receive, ack, timeout, tick, bar, unbar, home, Answer, no, step}
+use Rattle.commands.specs.declared.replies.Reply.{Reply}
+use Rattle.commands.specs.Answers.{reply-answer}
 use Rattle.commands.specs.Commands.{Request, call, audit, parsed}
 
 -- A request that is not served yet is refused like an unknown command.
@@ -32,3 +36,19 @@ called w (home c e) = not-yet w
 abbrev pub performed : World → Request → World × Answer
 performed w (call k) = called w k
 performed w audit = not-yet w
+
+-- what a line that reads so does, and what it answers; a line that is passed over answers nothing
+abbrev pub line-by : World → Result (Option Request) ℕ → World × Option Answer
+line-by w (Ok None) = (w, None)
+line-by w (Ok (Some r)) = (performed w r .0, Some (performed w r .1))
+line-by w (Err n) = (w, Some (no n))
+
+-- the same of the line itself
+abbrev pub carried-out : World → List ℕ → World × Option Answer
+carried-out w line = line-by w (parsed line)
+
+-- a reply, a fault or nothing as an answer
+abbrev pub some-answer : Result (Option Reply) Fault → Option Answer
+some-answer (Ok None) = None
+some-answer (Ok (Some r)) = Some (reply-answer r)
+some-answer (Err f) = Some (no (fault-number f))

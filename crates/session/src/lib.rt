@@ -2,19 +2,24 @@
 ghost use mathlib.Core.Path.{_≡_};
 ghost use Rattle.commands.specs.Answers.{answer-of};
 ghost use Rattle.commands.specs.Commands.{request-of};
-ghost use Rattle.session.specs.Session.{performed};
+ghost use Rattle.session.specs.Session.{performed, carried-out, some-answer};
 ghost use Rattle.world.specs.View.{view};
 use books::Book;
 use commands::Command;
 use commands::Reply;
+use commands::parse_line;
 use ledger::Ledger;
 use protocol::Fault;
+use protocol::FaultFromScript;
 use protocol::FaultFromWorld;
 use protocol::ScriptFault;
 use world::World;
 
 /// Carries out a command. One that is not served yet is refused like an unknown one.
-pub fn perform<L: Ledger, F: Book, S: Book>(world: &mut World<L, F, S>, command: Command) -> Result<Reply, Fault>
+pub fn perform<L: Ledger, F: Book, S: Book>(
+    world: &mut World<L, F, S>,
+    command: Command,
+) -> Result<Reply, Fault>
     ensures answer { λ r. ⌜ answer-of r ≡ performed (view (L·Ledger .meaning) (F·Book .meaning) (S·Book .meaning) (now (world .entry))) (request-of command) .1 ⌝ }
     ensures after { λ r. ⌜ view (L·Ledger .meaning) (F·Book .meaning) (S·Book .meaning) (now (world .exit)) ≡ performed (view (L·Ledger .meaning) (F·Book .meaning) (S·Book .meaning) (now (world .entry))) (request-of command) .0 ⌝ }
 {
@@ -48,6 +53,66 @@ pub fn perform<L: Ledger, F: Book, S: Book>(world: &mut World<L, F, S>, command:
             world.issue(chain, user, symbol, amount)?;
             Ok(Reply::Done)
         }
-        _ => Err(Fault::Script(ScriptFault::UnknownCommand)),
+        Command::Retire {
+            chain,
+            user,
+            denomination,
+            amount,
+        } => {
+            world.retire(chain, user, &denomination, amount)?;
+            Ok(Reply::Done)
+        }
+        Command::Pay {
+            chain,
+            user,
+            payee,
+            denomination,
+            amount,
+        } => {
+            world.pay(chain, user, payee, &denomination, amount)?;
+            Ok(Reply::Done)
+        }
+        Command::Send {
+            chain,
+            channel,
+            sender,
+            receiver,
+            denomination,
+            amount,
+            timeout,
+        } => {
+            let sequence = world.send(
+                chain,
+                channel,
+                sender,
+                receiver,
+                &denomination,
+                amount,
+                timeout,
+            )?;
+            Ok(Reply::Number(sequence as u64))
+        }
+        Command::Receive(_) => Err(Fault::Script(ScriptFault::UnknownCommand)),
+        Command::Ack(_) => Err(Fault::Script(ScriptFault::UnknownCommand)),
+        Command::Timeout(_) => Err(Fault::Script(ScriptFault::UnknownCommand)),
+        Command::Home { .. } => Err(Fault::Script(ScriptFault::UnknownCommand)),
+        Command::Audit => Err(Fault::Script(ScriptFault::UnknownCommand)),
+    }
+}
+
+/// Carries out the command on a line; a line that is passed over answers nothing.
+pub fn carry_out<L: Ledger, F: Book, S: Book>(
+    world: &mut World<L, F, S>,
+    line: &[u8],
+) -> Result<Option<Reply>, Fault>
+    ensures answer { λ r. ⌜ some-answer r ≡ carried-out (view (L·Ledger .meaning) (F·Book .meaning) (S·Book .meaning) (now (world .entry))) (now (line .entry)) .1 ⌝ }
+    ensures after { λ r. ⌜ view (L·Ledger .meaning) (F·Book .meaning) (S·Book .meaning) (now (world .exit)) ≡ carried-out (view (L·Ledger .meaning) (F·Book .meaning) (S·Book .meaning) (now (world .entry))) (now (line .entry)) .0 ⌝ }
+{
+    match parse_line(line)? {
+        Some(command) => {
+            let reply = perform(world, command)?;
+            Ok(Some(reply))
+        }
+        None => Ok(None),
     }
 }
