@@ -4,6 +4,7 @@ pub mod Ends
 pub mod Kept
 pub mod Rows
 pub mod Verdicts
+pub mod Walks
 pub mod Issuing
 pub mod Sendings
 pub mod Steps

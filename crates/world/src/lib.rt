@@ -1,5 +1,6 @@
 // A world: chains, links, packets and registers over any ledger and any two books, and every call on it.
 mod accounts;
+mod home;
 mod lanes;
 mod links;
 mod packets;
