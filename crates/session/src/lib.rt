@@ -2,6 +2,10 @@
 ghost use mathlib.Core.Path.{_≡_};
 ghost use Rattle.commands.specs.Answers.{answer-of};
 ghost use Rattle.commands.specs.Commands.{request-of};
+ghost use mathlib.Core.Bool.{Bool};
+ghost use Rattle.protocol.specs.Book.{Book as BookMeaning};
+ghost use Rattle.protocol.specs.Ledger.{Ledger as Meaning};
+ghost use Rattle.session.specs.Conservation.{Reached, Conserves};
 ghost use Rattle.session.specs.Session.{performed, carried-out, some-answer};
 ghost use Rattle.world.specs.View.{view};
 use books::Book;
@@ -100,8 +104,8 @@ pub fn perform<L: Ledger, F: Book, S: Book>(
     }
 }
 
-/// Carries out the command on a line; a line that is passed over answers nothing.
-pub fn carry_out<L: Ledger, F: Book, S: Book>(
+// The line as a command, and what that answers.
+fn carry_line<L: Ledger, F: Book, S: Book>(
     world: &mut World<L, F, S>,
     line: &[u8],
 ) -> Result<Option<Reply>, Fault>
@@ -115,4 +119,18 @@ pub fn carry_out<L: Ledger, F: Book, S: Book>(
         }
         None => Ok(None),
     }
+}
+
+/// Carries out the command on a line; a line that is passed over answers nothing. Whatever calls, over whatever ledger and books,
+/// led to the world that it leaves: conservation holds of it.
+pub fn carry_out<L: Ledger, F: Book, S: Book>(
+    world: &mut World<L, F, S>,
+    line: &[u8],
+) -> Result<Option<Reply>, Fault>
+    ensures answer { λ r. ⌜ some-answer r ≡ carried-out (view (L·Ledger .meaning) (F·Book .meaning) (S·Book .meaning) (now (world .entry))) (now (line .entry)) .1 ⌝ }
+    ensures after { λ r. ⌜ view (L·Ledger .meaning) (F·Book .meaning) (S·Book .meaning) (now (world .exit)) ≡ carried-out (view (L·Ledger .meaning) (F·Book .meaning) (S·Book .meaning) (now (world .entry))) (now (line .entry)) .0 ⌝ }
+    ensures reached { λ r. ⌜ ((l : Meaning) (bs : Bool → BookMeaning) → Reached l bs (view (L·Ledger .meaning) (F·Book .meaning) (S·Book .meaning) (now (world .entry))) → Reached l bs (view (L·Ledger .meaning) (F·Book .meaning) (S·Book .meaning) (now (world .exit)))) ⌝ }
+    ensures conserved { λ r. ⌜ Conserves (view (L·Ledger .meaning) (F·Book .meaning) (S·Book .meaning) (now (world .exit))) ⌝ }
+{
+    carry_line(world, line)
 }

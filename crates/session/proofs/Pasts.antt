@@ -1,0 +1,61 @@
+-- Every world has its past: conservation holds of it, and a line leads on.
+use mathlib.Core.Path.{_≡_, refl, sym, ap, subst, _∙_}
+use mathlib.Core.Bool.{Bool}
+use mathlib.Core.List.{List, [], _∷_, _++_}
+use Prim.Native.Nat.{ℕ, _+_}
+use Rattle.std.specs.declared.option.Option.{Option}
+use Rattle.std.specs.declared.option.Option.the-variants.{Some, None}
+use Rattle.std.specs.declared.result.Result.{Result}
+use Rattle.std.specs.declared.result.Result.the-variants.{Ok, Err}
+use Rattle.denom.specs.Denomination.{Token}
+use Rattle.protocol.specs.Book.{Book}
+use Rattle.protocol.specs.Calls.{Call, open-link, issue, retire, pay, send, receive, ack, timeout, tick, bar, unbar, home, step}
+use Rattle.protocol.specs.Laws.{world, open-after, there-is, issued, retired}
+use Rattle.protocol.specs.Ledger.{Ledger}
+use Rattle.protocol.specs.World.{World}
+use Rattle.protocol.proofs.Whole.{conservation, supply-accounted}
+use Rattle.commands.specs.Commands.{Request, call, audit, parsed}
+use Rattle.session.specs.Session.{called, performed, line-by, carried-out}
+use Rattle.session.specs.Conservation.{Kept, Conserves, Reached}
+
+-- conservation of the world after a past
+kept : (l : Ledger) (bs : Bool → Book) (past : List Call) → Kept l bs past (world l bs past)
+kept l bs past =
+    record {
+      always = conservation l bs;
+      backed = λ L D e hl hd nb. conservation l bs .backed past L D e hl hd nb;
+      moved = λ t later earlier is.
+          let P : List Call → Type 0 = λ p. there-is (world l bs p) (open-after l bs p) t + retired l bs t later earlier ≡ there-is (world l bs earlier) (open-after l bs earlier) t + issued l bs t later earlier in
+          subst P (sym is) (conservation l bs .moved t later earlier);
+      token-adds-up = supply-accounted l bs .token-adds-up past;
+    }
+
+pub conserves : (w : World) → Conserves w
+conserves w l bs past e = subst (Kept l bs past) e (kept l bs past)
+
+called-reaches : (l : Ledger) (bs : Bool → Book) (w : World) (k : Call) → Reached l bs w → Reached l bs (called w k .0)
+called-reaches l bs w (open-link a b s) r = (open-link a b s ∷ r .0, ap (λ (x : World). step x (open-link a b s) .0) (r .1))
+called-reaches l bs w (issue c u s n) r = (issue c u s n ∷ r .0, ap (λ (x : World). step x (issue c u s n) .0) (r .1))
+called-reaches l bs w (retire c u e n) r = (retire c u e n ∷ r .0, ap (λ (x : World). step x (retire c u e n) .0) (r .1))
+called-reaches l bs w (pay c u v e n) r = (pay c u v e n ∷ r .0, ap (λ (x : World). step x (pay c u v e n) .0) (r .1))
+called-reaches l bs w (send c k u v e n t) r = (send c k u v e n t ∷ r .0, ap (λ (x : World). step x (send c k u v e n t) .0) (r .1))
+called-reaches l bs w (receive a d s) r = r
+called-reaches l bs w (ack a d s) r = r
+called-reaches l bs w (timeout a d s) r = r
+called-reaches l bs w (tick c n) r = (tick c n ∷ r .0, ap (λ (x : World). step x (tick c n) .0) (r .1))
+called-reaches l bs w (bar c u) r = (bar c u ∷ r .0, ap (λ (x : World). step x (bar c u) .0) (r .1))
+called-reaches l bs w (unbar c u) r = (unbar c u ∷ r .0, ap (λ (x : World). step x (unbar c u) .0) (r .1))
+called-reaches l bs w (home c e) r = r
+
+performed-reaches : (l : Ledger) (bs : Bool → Book) (w : World) (q : Request) → Reached l bs w → Reached l bs (performed w q .0)
+performed-reaches l bs w (call k) r = called-reaches l bs w k r
+performed-reaches l bs w audit r = r
+
+line-reaches : (l : Ledger) (bs : Bool → Book) (w : World) (o : Result (Option Request) ℕ) → Reached l bs w → Reached l bs (line-by w o .0)
+line-reaches l bs w (Ok None) r = r
+line-reaches l bs w (Ok (Some q)) r = performed-reaches l bs w q r
+line-reaches l bs w (Err n) r = r
+
+-- a line leads from a world that calls have reached to another
+pub line-leads-on : (l : Ledger) (bs : Bool → Book) (w v : World) (line : List ℕ) → v ≡ carried-out w line .0 → Reached l bs w → Reached l bs v
+line-leads-on l bs w v line e r = subst (Reached l bs) (sym e) (line-reaches l bs w (parsed line) r)
