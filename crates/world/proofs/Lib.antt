@@ -6,3 +6,5 @@ pub mod Rows
 pub mod Verdicts
 pub mod Sendings
 pub mod Steps
+pub mod Looks
+pub mod Deliveries

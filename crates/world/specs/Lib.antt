@@ -1,4 +1,5 @@
 pub mod Packets
+pub mod Receiving
 pub mod Registers
 pub mod Routes
 pub mod Sending

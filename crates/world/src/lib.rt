@@ -3,6 +3,7 @@ mod lanes;
 mod links;
 mod packets;
 mod receipts;
+mod receive;
 mod registers;
 mod send;
 mod tables;
