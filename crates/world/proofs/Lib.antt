@@ -8,3 +8,4 @@ pub mod Sendings
 pub mod Steps
 pub mod Looks
 pub mod Deliveries
+pub mod Arrivals

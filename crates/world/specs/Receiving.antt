@@ -5,7 +5,7 @@ use Prim.Native.Nat.{ℕ}
 use lib.Dec.{eqb, leb}
 use lib.ListN.{length}
 use Rattle.std.specs.declared.option.Option.the-variants.{None}
-use Rattle.denom.specs.Denomination.{stripped, behind}
+use Rattle.denom.specs.Denomination.{came-by, stripped, behind}
 use Rattle.protocol.specs.declared.marks.Mark.the-variants.{Good, TooManyHops, RegisterFull, LedgerRefused}
 use Rattle.protocol.specs.House.{hops-most, denoms-most, escrow-account}
 use Rattle.protocol.specs.Ledger.{moved, credited, move-refusals, credit-refusals}
@@ -63,6 +63,14 @@ abbrev pub with-voucher : World → End → protocol.Packet → World
 with-voucher w f p =
     let voucher = behind (f .channel) (p .denom) in
     with-bal (enrolled w (f .chain) voucher) (credited (w .ledger .balance) (f .chain) (p .receiver) (number w (f .chain) voucher) (p .amount))
+
+-- Its mark and the world where that is good, by the ends that its lane leads from and to.
+
+abbrev pub arrival-at : World → End → End → protocol.Packet → ℕ
+arrival-at w n f p = cond (came-by (n .channel) (p .denom)) (home-mark w f p) (voucher-mark w f p)
+
+abbrev pub delivered-at : World → End → End → protocol.Packet → World
+delivered-at w n f p = cond (came-by (n .channel) (p .denom)) (at-home w f p) (with-voucher w f p)
 
 -- the world where the mark is good, and the old one where it is not
 abbrev pub if-good : ℕ → World → World → World

@@ -1,12 +1,13 @@
 ghost use mathlib.Core.Path.{_≡_};
 ghost use Rattle.std.specs.Results.{Cases};
 ghost use Rattle.std.specs.declared.option.Option.the-variants.{Some};
-ghost use Rattle.protocol.specs.Calls.{refusals};
+ghost use Rattle.protocol.specs.Calls.{step, said, refusals};
+ghost use Rattle.protocol.specs.Calls.Answer.{says};
 ghost use Rattle.protocol.specs.Calls.Call.{receive as receiving};
 ghost use Rattle.protocol.specs.Faults.{world-number};
 ghost use Rattle.protocol.specs.Refusals.{first};
 ghost use Rattle.protocol.specs.Book.{mark-number};
-ghost use Rattle.world.specs.Receiving.{Receivable, home-mark, at-home, voucher-mark, with-voucher, if-good};
+ghost use Rattle.world.specs.Receiving.{Receivable, home-mark, at-home, voucher-mark, with-voucher, arrival-at, delivered-at, if-good};
 ghost use Rattle.world.specs.View.{view, end-view, packet-view};
 use super::types::End;
 use super::types::Event;
@@ -18,6 +19,7 @@ use ledger::Ledger;
 use protocol::BookFault;
 use protocol::Mark;
 use protocol::WorldFault;
+use protocol::WorldFaultFromBook;
 use protocol::escrow_account;
 
 impl<L: Ledger, F: Book, S: Book> World<L, F, S> {
@@ -89,5 +91,33 @@ impl<L: Ledger, F: Book, S: Book> World<L, F, S> {
             }
             Err(_) => Mark::LedgerRefused,
         }
+    }
+
+    // Delivers a packet by its first hop: what came in by the near channel goes home, anything else gets a voucher.
+    fn deliver(&mut self, near: End, far: End, packet: &Packet) -> Mark
+        ensures answer { λ r. ⌜ mark-number r ≡ arrival-at (view (L·Ledger .meaning) (F·Book .meaning) (S·Book .meaning) (now (self .entry))) (end-view near) (end-view far) (packet-view (now (packet .entry))) ⌝ }
+        ensures after { λ r. ⌜ view (L·Ledger .meaning) (F·Book .meaning) (S·Book .meaning) (now (self .exit)) ≡ if-good (mark-number r) (delivered-at (view (L·Ledger .meaning) (F·Book .meaning) (S·Book .meaning) (now (self .entry))) (end-view near) (end-view far) (packet-view (now (packet .entry)))) (view (L·Ledger .meaning) (F·Book .meaning) (S·Book .meaning) (now (self .entry))) ⌝ }
+    {
+        if packet.denomination.came_by(near.channel) {
+            return self.deliver_home(far, packet);
+        }
+        self.deliver_voucher(far, packet)
+    }
+
+    /// Receives a packet at the end that its lane leads to, and answers its mark. Balances and register are altered with a good
+    /// mark alone.
+    pub fn receive(
+        &mut self,
+        link: usize,
+        direction: usize,
+        sequence: usize,
+    ) -> Result<Mark, WorldFault>
+        ensures answer { λ r. ⌜ said (λ m. says (mark-number m)) world-number r ≡ step (view (L·Ledger .meaning) (F·Book .meaning) (S·Book .meaning) (now (self .entry))) (receiving link direction sequence) .1 ⌝ }
+        ensures after { λ r. ⌜ view (L·Ledger .meaning) (F·Book .meaning) (S·Book .meaning) (now (self .exit)) ≡ step (view (L·Ledger .meaning) (F·Book .meaning) (S·Book .meaning) (now (self .entry))) (receiving link direction sequence) .0 ⌝ }
+    {
+        let (route, packet) = self.receivable(link, direction, sequence)?;
+        let mark = self.deliver(route.near, route.far, &packet);
+        self.take(route.kind, route.lane, sequence, mark)?;
+        Ok(mark)
     }
 }
