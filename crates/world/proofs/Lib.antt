@@ -9,3 +9,4 @@ pub mod Steps
 pub mod Looks
 pub mod Deliveries
 pub mod Arrivals
+pub mod Refunds

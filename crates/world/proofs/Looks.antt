@@ -27,18 +27,10 @@ use Rattle.world.specs.declared.types.Effect.{Effect}
 use Rattle.std.specs.declared.result.Result.the-variants.{Ok}
 use Rattle.world.specs.Receiving.{Receivable}
 use Rattle.world.specs.Packets.{is-packet, packet-step}
-use Rattle.world.specs.Routes.{Leads}
+use Rattle.world.specs.Routes.{Leads, Looked}
 use Rattle.world.specs.View.{packet-view, stands}
 use Rattle.world.proofs.Kept.{number-some, number-none}
 use Rattle.world.proofs.Steps.{some-mapped, after-step, receipt-step, arrives-unmarked}
-
--- the packet p, at place n, is that of direction d of link l and sequence s
-pub record Looked (w : World) (l d s n : ℕ) (p : Packet) : Type 0 where
-  pub has : has-packet w (lane l d) s ≡ true
-  pub place-is : n ≡ packet-place w (lane l d) s
-  pub packet : packet-view p ≡ packet-at w (lane l d) s
-  pub on-lane : p .lane ≡ lane l d
-  pub numbered : p .sequence ≡ s
 
 module _ (w : World) (l d s : ℕ) (q : Route) (leads : Leads (w .links) (w .closed) l d q) where
   -- the look was on the lane

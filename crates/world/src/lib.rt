@@ -6,6 +6,7 @@ mod receipts;
 mod receive;
 mod registers;
 mod send;
+mod settle;
 mod tables;
 mod types;
 mod world;
