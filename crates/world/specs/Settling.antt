@@ -6,12 +6,12 @@ use Prim.Native.Nat.{ℕ}
 use lib.Dec.{eqb}
 use Rattle.denom.specs.Denomination.{came-by}
 use Rattle.protocol.specs.House.{escrow-account}
-use Rattle.protocol.specs.Refusals.{first, _when_}
+use Rattle.protocol.specs.Refusals.{Refusal, _when_, first}
 use Rattle.protocol.specs.Ledger.{moved, credited, move-refusals, credit-refusals}
 use Rattle.protocol.specs.Book.{is-one}
 use Rattle.protocol.specs.World.{World, End, lane, mark-at, registered, number}
 use Rattle.protocol.specs.World as protocol
-use Rattle.protocol.specs.Calls.{Call, ack, timeout, refusals, refused, refund-refused, packet-at, with-bal, with-closed}
+use Rattle.protocol.specs.Calls.{Call, ack, timeout, refusals, refused, opened, has-packet, refund-refused, packet-at, with-bal, with-closed}
 use Rattle.world.specs.declared.types.Effect.{Effect}
 use Rattle.world.specs.declared.types.Effect.the-variants.{Arrives, Ends, EndsWithRefund}
 use Rattle.world.specs.declared.types.Packet.{Packet}
@@ -36,6 +36,10 @@ refund-refused-at w n p =
     (refused (credit-refusals (w .ledger) (n .chain) (p .sender) d (p .amount)))
     (refused (move-refusals (w .ledger) (n .chain) (escrow-account (n .channel)) (p .sender) d (p .amount)))
 
+-- that as the last refusal of a call
+abbrev pub refund-refusals : World → End → protocol.Packet → List Refusal
+refund-refusals w n p = 34 when refund-refused-at w n p ∷ []
+
 -- the world in which the sender has it back
 abbrev pub refunded-at : World → End → protocol.Packet → World
 refunded-at w n p =
@@ -50,6 +54,10 @@ refunded-at w n p =
 -- link l is closed, if strict says so
 abbrev pub closed-if : World → ℕ → Bool → World
 closed-if w l strict = with-closed w (λ l′. w .closed l′ || (eqb l′ l && strict))
+
+-- the refusals of a look for a packet, before others
+abbrev pub look-refusals : World → ℕ → ℕ → ℕ → List Refusal → List Refusal
+look-refusals w l d s rest = 11 when not (opened w l d) ∷ 18 when not (has-packet w (lane l d) s) ∷ rest
 
 -- the route is the lane, and p is the packet at place n
 pub record On (w : World) (l d s : ℕ) (r : Route) (n : ℕ) (p : Packet) : Type 0 where

@@ -1,21 +1,16 @@
 ghost use mathlib.Core.Path.{_≡_};
-ghost use mathlib.Core.Bool.{not, true};
-ghost use mathlib.Core.List.{List, [], _∷_};
+ghost use mathlib.Core.List.{List};
 ghost use Prim.Native.Nat.{ℕ, _<_};
 ghost use lib.ListN.{length};
 ghost use Rattle.std.specs.Results.{Cases, isErr};
 ghost use Rattle.std.specs.declared.option.Option.the-variants.{Some};
-ghost use Rattle.protocol.specs.Calls.{step, said, refusals, opened, has-packet, ended};
-ghost use Rattle.protocol.specs.Calls.Answer.{done};
-ghost use Rattle.protocol.specs.Calls.Call.{ack as acking, timeout as timing-out};
+ghost use Rattle.protocol.specs.Calls.{ended};
 ghost use Rattle.protocol.specs.Faults.{world-number, told-by};
-ghost use Rattle.protocol.specs.Refusals.{Refusal, _when_, first, answer-unless, left-by};
-ghost use Rattle.protocol.specs.World.{lane, is-strict};
-ghost use Rattle.world.specs.Settling.{refund-refused-at, refunded-at, closed-if, On, Acknowledgeable, Expired};
+ghost use Rattle.protocol.specs.Refusals.{Refusal, first, answer-unless, left-by};
+ghost use Rattle.protocol.specs.World.{is-strict};
+ghost use Rattle.world.specs.Settling.{refund-refused-at, refund-refusals, refunded-at, look-refusals, closed-if, On};
 ghost use Rattle.world.specs.View.{view, end-view, packet-view, packets-in};
-use super::types::Effect;
 use super::types::End;
-use super::types::Event;
 use super::types::Packet;
 use super::types::Route;
 use super::world::World;
@@ -33,7 +28,7 @@ impl<L: Ledger, F: Book, S: Book> World<L, F, S> {
         direction: usize,
         sequence: usize,
     ) -> Result<(Route, usize, Packet), WorldFault>
-        ensures { λ r. ⌜ Cases r (λ q. On (view (L·Ledger .meaning) (F·Book .meaning) (S·Book .meaning) (now (self .entry))) link direction sequence (q .0) (q .1) (q .2)) (λ f. (rest : List Refusal) → first (11 when not (opened (view (L·Ledger .meaning) (F·Book .meaning) (S·Book .meaning) (now (self .entry))) link direction) ∷ 18 when not (has-packet (view (L·Ledger .meaning) (F·Book .meaning) (S·Book .meaning) (now (self .entry))) (lane link direction) sequence) ∷ rest) ≡ Some (world-number f)) ⌝ }
+        ensures { λ r. ⌜ Cases r (λ q. On (view (L·Ledger .meaning) (F·Book .meaning) (S·Book .meaning) (now (self .entry))) link direction sequence (q .0) (q .1) (q .2)) (λ f. (rest : List Refusal) → first (look-refusals (view (L·Ledger .meaning) (F·Book .meaning) (S·Book .meaning) (now (self .entry))) link direction sequence rest) ≡ Some (world-number f)) ⌝ }
     {
         let Some(route) = self.tables.links.route(link, direction) else {
             return Err(WorldFault::NoSuchLink);
@@ -68,7 +63,7 @@ impl<L: Ledger, F: Book, S: Book> World<L, F, S> {
     // Undoes a send: gives back what the packet at a place carries, and ends its standing.
     fn refund(&mut self, near: End, place: usize, packet: &Packet) -> Result<(), WorldFault>
         requires { ⌜ place < length (packets-in (now self .tables .packets)) ⌝ }
-        ensures answer { λ r. ⌜ told-by world-number r ≡ answer-unless (34 when refund-refused-at (view (L·Ledger .meaning) (F·Book .meaning) (S·Book .meaning) (now (self .entry))) (end-view near) (packet-view (now (packet .entry))) ∷ []) tt ⌝ }
+        ensures answer { λ r. ⌜ told-by world-number r ≡ answer-unless (refund-refusals (view (L·Ledger .meaning) (F·Book .meaning) (S·Book .meaning) (now (self .entry))) (end-view near) (packet-view (now (packet .entry)))) tt ⌝ }
         ensures after { λ r. ⌜ view (L·Ledger .meaning) (F·Book .meaning) (S·Book .meaning) (now (self .exit)) ≡ left-by r (view (L·Ledger .meaning) (F·Book .meaning) (S·Book .meaning) (now (self .entry))) (ended (refunded-at (view (L·Ledger .meaning) (F·Book .meaning) (S·Book .meaning) (now (self .entry))) (end-view near) (packet-view (now (packet .entry)))) place) ⌝ }
     {
         match self.pay_back(near, packet) {
