@@ -8,3 +8,7 @@ pub mod Walks
 pub mod Issuing
 pub mod Sendings
 pub mod Steps
+pub mod Looks
+pub mod Deliveries
+pub mod Arrivals
+pub mod Refunds

@@ -1,12 +1,14 @@
 -- Tables of which the first rows are taken.
 use mathlib.Core.Path.{_≡_, refl, sym, ap, _∙_}
-use mathlib.Core.Bool.{Bool, true, false, cond}
+use mathlib.Core.Bool.{Bool, true, false, cond, _||_}
 use mathlib.Core.List.{List, [], _∷_, _++_, map}
 use mathlib.Core.Logic.{⊎-elim, _≢_}
 use Prim.Native.Nat.{ℕ, zero, suc, _+_, _<_, _≤_}
 use native.Mathlib.Omega.{arith}
-use borrow.Author.Tests.{lt-ltb, le-ltb}
-use lib.Dec.{ltb}
+use borrow.Author.Tests.{lt-ltb, le-ltb, eq-eqb, ne-eqb}
+use Rattle.std.proofs.shelf.Tests.{cases-eq}
+use Rattle.protocol.proofs.Bools.{or-false}
+use lib.Dec.{eqb, ltb}
 use native.Mathlib.Nat.{min-le-left, min-le-right}
 use lib.ListN.{length, getD, take, set, length-map, length-take}
 use lib.Seq.{getD-set-same, getD-set-other, length-take-le}
@@ -84,3 +86,30 @@ row-changed f g rows n i x y d h e =
 -- no more rows than are taken
 pub rows-few : {X Y : Type 0} (f : X → Y) (rows : List X) (n : ℕ) → length (map f (take n rows)) ≤ n
 rows-few f rows n = omega (arith, length-map (take n rows) f, length-take n rows, min-le-left n (length rows))
+
+-- a row replaced by itself
+set-own : {Y : Type 0} (ys : List Y) (i : ℕ) (d : Y) → set ys i (getD ys i d) ≡ ys
+set-own [] i d = refl
+set-own (y ∷ ys) zero d = refl
+set-own {Y} (y ∷ ys) (suc i) d = ap (λ (l : List Y). y ∷ l) (set-own ys i d)
+
+-- a row replaced by one that stands for the same
+pub row-same :
+    {X Y : Type 0} (f : X → Y) (rows : List X) (n i : ℕ) (x y : X) (d : Y) → i < length (map f (take n rows)) →
+    f y ≡ f (getD rows i x) → map f (take n (set rows i y)) ≡ map f (take n rows)
+row-same f rows n i x y d h e = row-changed f (λ z. z) rows n i x y d h e ∙ set-own (map f (take n rows)) i d
+
+-- one link closed
+pub one-closed :
+    (rows : List Link) (n l : ℕ) (x : Link) → l < n → l < length rows → x .closed ≡ true → (i : ℕ) →
+    cond (ltb i n) (getD (set rows l x) i no-link .closed) false ≡ (cond (ltb i n) (getD rows i no-link .closed) false || eqb i l)
+one-closed rows n l x h within e i =
+    ⊎-elim
+    (λ (same : i ≡ l).
+    rw (same, lt-ltb l n h, getD-set-same rows l x no-link within, e, eq-eqb l l refl) (sym (or-true (getD rows l no-link .closed))))
+    (λ (other : i ≢ l). rw (getD-set-other rows l i x no-link other, ne-eqb i l other) (sym (or-false (cond (ltb i n) (getD rows i no-link .closed) false))))
+    (cases-eq i l)
+  where
+    or-true : (b : Bool) → (b || true) ≡ true
+    or-true true = refl
+    or-true false = refl

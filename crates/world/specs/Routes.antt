@@ -1,4 +1,4 @@
--- What a route of the code says of one direction of a link.
+-- What a route of the code says of one direction of a link, and what a look for a packet on it tells.
 use mathlib.Core.Path.{_≡_}
 use mathlib.Core.Bool.{Bool, true, _&&_}
 use mathlib.Core.List.{List}
@@ -6,9 +6,11 @@ use Prim.Native.Nat.{ℕ, _/_, _<_}
 use lib.Dec.{leb, ltb}
 use lib.ListN.{length, getD}
 use Rattle.protocol.specs.House.{lanes-most}
-use Rattle.protocol.specs.World.{Link, lane, from-end, to-end, end-at, lane-out, in-use, no-link, is-strict}
+use Rattle.protocol.specs.World.{World, Link, lane, from-end, to-end, end-at, lane-out, in-use, no-link, is-strict}
+use Rattle.protocol.specs.Calls.{has-packet, packet-place, packet-at}
+use Rattle.world.specs.declared.types.Packet.{Packet}
 use Rattle.world.specs.declared.types.Route.{Route}
-use Rattle.world.specs.View.{end-view}
+use Rattle.world.specs.View.{end-view, packet-view}
 
 -- whether direction d of link l is there
 abbrev pub is-lane : List Link → ℕ → ℕ → Bool
@@ -32,3 +34,11 @@ pub record Leads-out (ls : List Link) (closed : ℕ → Bool) (c k : ℕ) (r : R
   pub near : end-view (r .near) ≡ end-at c k
   pub far : end-view (r .far) ≡ to-end ls (lane-out ls c k)
   pub closed-is : r .closed ≡ closed (lane-out ls c k / 2)
+
+-- the packet p, at place n, is that of direction d of link l and sequence s
+pub record Looked (w : World) (l d s n : ℕ) (p : Packet) : Type 0 where
+  pub has : has-packet w (lane l d) s ≡ true
+  pub place-is : n ≡ packet-place w (lane l d) s
+  pub packet : packet-view p ≡ packet-at w (lane l d) s
+  pub on-lane : p .lane ≡ lane l d
+  pub numbered : p .sequence ≡ s

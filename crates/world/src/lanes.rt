@@ -1,5 +1,5 @@
 ghost use mathlib.Core.Path.{_≡_};
-ghost use mathlib.Core.Bool.{false, not, _&&_};
+ghost use mathlib.Core.Bool.{false, not, _&&_, _||_};
 ghost use Prim.Native.Nat.{ℕ, _<_};
 ghost use lib.Dec.{eqb, leb};
 ghost use lib.ListN.{getD};
@@ -50,6 +50,17 @@ impl Links {
             return None;
         };
         self.route(lane / 2, lane % 2)
+    }
+
+    // Closes a link.
+    pub(crate) fn close(&mut self, link: usize)
+        requires { ⌜ link < now self .count ⌝ }
+        ensures links { λ _. ⌜ links-in (now (self .exit)) ≡ links-in (now (self .entry)) ⌝ }
+        ensures closed { λ _. ⌜ ((i : ℕ) → closed-in (now (self .exit)) i ≡ (closed-in (now (self .entry)) i || eqb i link)) ⌝ }
+    {
+        let mut row = self.rows[link];
+        row.closed = true;
+        self.rows[link] = row;
     }
 }
 
