@@ -39,13 +39,13 @@ called-reaches l bs w (issue c u s n) r = (issue c u s n ∷ r .0, ap (λ (x : W
 called-reaches l bs w (retire c u e n) r = (retire c u e n ∷ r .0, ap (λ (x : World). step x (retire c u e n) .0) (r .1))
 called-reaches l bs w (pay c u v e n) r = (pay c u v e n ∷ r .0, ap (λ (x : World). step x (pay c u v e n) .0) (r .1))
 called-reaches l bs w (send c k u v e n t) r = (send c k u v e n t ∷ r .0, ap (λ (x : World). step x (send c k u v e n t) .0) (r .1))
-called-reaches l bs w (receive a d s) r = r
+called-reaches l bs w (receive a d s) r = (receive a d s ∷ r .0, ap (λ (x : World). step x (receive a d s) .0) (r .1))
 called-reaches l bs w (ack a d s) r = r
 called-reaches l bs w (timeout a d s) r = r
 called-reaches l bs w (tick c n) r = (tick c n ∷ r .0, ap (λ (x : World). step x (tick c n) .0) (r .1))
 called-reaches l bs w (bar c u) r = (bar c u ∷ r .0, ap (λ (x : World). step x (bar c u) .0) (r .1))
 called-reaches l bs w (unbar c u) r = (unbar c u ∷ r .0, ap (λ (x : World). step x (unbar c u) .0) (r .1))
-called-reaches l bs w (home c e) r = r
+called-reaches l bs w (home c e) r = (home c e ∷ r .0, ap (λ (x : World). step x (home c e) .0) (r .1))
 
 performed-reaches : (l : Ledger) (bs : Bool → Book) (w : World) (q : Request) → Reached l bs w → Reached l bs (performed w q .0)
 performed-reaches l bs w (call k) r = called-reaches l bs w k r

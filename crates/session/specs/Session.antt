@@ -24,13 +24,13 @@ called w (issue c u s n) = step w (issue c u s n)
 called w (retire c u e n) = step w (retire c u e n)
 called w (pay c u v e n) = step w (pay c u v e n)
 called w (send c k u v e n t) = step w (send c k u v e n t)
-called w (receive l d s) = not-yet w
+called w (receive l d s) = step w (receive l d s)
 called w (ack l d s) = not-yet w
 called w (timeout l d s) = not-yet w
 called w (tick c n) = step w (tick c n)
 called w (bar c u) = step w (bar c u)
 called w (unbar c u) = step w (unbar c u)
-called w (home c e) = not-yet w
+called w (home c e) = step w (home c e)
 
 -- what a request comes to
 abbrev pub performed : World → Request → World × Answer

@@ -12,6 +12,7 @@ use books::Book;
 use commands::Command;
 use commands::Reply;
 use commands::parse_line;
+use denom::TokenId;
 use ledger::Ledger;
 use protocol::Fault;
 use protocol::FaultFromScript;
@@ -96,10 +97,22 @@ pub fn perform<L: Ledger, F: Book, S: Book>(
             )?;
             Ok(Reply::Number(sequence as u64))
         }
-        Command::Receive(_) => Err(Fault::Script(ScriptFault::UnknownCommand)),
+        Command::Receive(packet) => {
+            let mark = world.receive(packet.link, packet.direction, packet.sequence)?;
+            Ok(Reply::Number(mark.number() as u64))
+        }
         Command::Ack(_) => Err(Fault::Script(ScriptFault::UnknownCommand)),
         Command::Timeout(_) => Err(Fault::Script(ScriptFault::UnknownCommand)),
-        Command::Home { .. } => Err(Fault::Script(ScriptFault::UnknownCommand)),
+        Command::Home {
+            chain,
+            denomination,
+        } => {
+            let (home, symbol) = world.home(chain, &denomination)?;
+            Ok(Reply::Home(TokenId {
+                chain: home,
+                symbol,
+            }))
+        }
         Command::Audit => Err(Fault::Script(ScriptFault::UnknownCommand)),
     }
 }
