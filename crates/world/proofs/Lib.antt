@@ -12,3 +12,4 @@ pub mod Looks
 pub mod Deliveries
 pub mod Arrivals
 pub mod Refunds
+pub mod Settlements

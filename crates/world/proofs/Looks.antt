@@ -12,13 +12,13 @@ use Rattle.std.specs.declared.option.Option.the-variants.{Some, None}
 use Rattle.std.specs.Options.{isSome, mapped}
 use Rattle.std.proofs.shelf.Tests.{eqb-true, and-parts}
 use Rattle.std.proofs.shelf.Ways.{tells}
-use Rattle.register.specs.Keys.{number-of, place}
+use Rattle.register.specs.Keys.{number-of, found}
 use Rattle.protocol.specs.declared.marks.Mark.{Mark}
 use Rattle.protocol.specs.Book.{Book, mark-number, marked, lower-marked, take-refusals}
 use Rattle.protocol.specs.Refusals.{first, _when_}
 use Rattle.protocol.specs.World.{World, End, lane, link-kind, book-of, is-strict}
 use Rattle.protocol.specs.World as protocol
-use Rattle.protocol.specs.Calls.{receive, refusals, opened, has-packet, packet-at, packet-place, no-packet, passed}
+use Rattle.protocol.specs.Calls.{receive, refusals, opened, has-packet, packet-at, packet-place, no-packet, passed, lower-stands}
 use Rattle.protocol.proofs.Places.{place-hit}
 use Rattle.world.specs.declared.types.Packet.{Packet}
 use Rattle.world.specs.declared.types.Route.{Route}
@@ -26,7 +26,7 @@ use Rattle.world.specs.declared.types.Event.the-variants.{Receipt}
 use Rattle.world.specs.declared.types.Effect.{Effect}
 use Rattle.std.specs.declared.result.Result.the-variants.{Ok}
 use Rattle.world.specs.Receiving.{Receivable}
-use Rattle.world.specs.Packets.{is-packet, packet-step}
+use Rattle.world.specs.Packets.{is-packet, stands-below, packet-step}
 use Rattle.world.specs.Routes.{Leads, Looked}
 use Rattle.world.specs.View.{packet-view, stands}
 use Rattle.world.proofs.Kept.{number-some, number-none}
@@ -74,6 +74,9 @@ module _ (w : World) (l d s : ℕ) (q : Route) (leads : Leads (w .links) (w .clo
 
   pub strict-same : (b : Bool) → b ≡ w .books (is-strict (q .kind)) .strict → book-of w (lane l d) .strict ≡ b
   strict-same b e = sym (e ∙ ap (λ (k : Book). k .strict) book-same)
+
+  pub lower-same : (b : Bool) → b ≡ found (stands-below (q .lane) s) (w .packets) → lower-stands w (lane l d) s ≡ b
+  lower-same b e = sym (e ∙ ap (λ i. found (stands-below i s) (w .packets)) (leads .lane-is))
 
   pub waits-same :
       (b : Bool) → b ≡ (w .books (is-strict (q .kind)) .strict && not (lower-marked (w .books (is-strict (q .kind))) (q .lane) s)) →

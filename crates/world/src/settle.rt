@@ -1,16 +1,21 @@
 ghost use mathlib.Core.Path.{_≡_};
+ghost use mathlib.Core.Bool.{true};
 ghost use mathlib.Core.List.{List};
 ghost use Prim.Native.Nat.{ℕ, _<_};
 ghost use lib.ListN.{length};
 ghost use Rattle.std.specs.Results.{Cases, isErr};
 ghost use Rattle.std.specs.declared.option.Option.the-variants.{Some};
-ghost use Rattle.protocol.specs.Calls.{ended};
+ghost use Rattle.protocol.specs.Calls.{step, said, refusals, ended};
+ghost use Rattle.protocol.specs.Calls.Answer.{done};
+ghost use Rattle.protocol.specs.Calls.Call.{ack as acking, timeout as timing-out};
 ghost use Rattle.protocol.specs.Faults.{world-number, told-by};
 ghost use Rattle.protocol.specs.Refusals.{Refusal, first, answer-unless, left-by};
 ghost use Rattle.protocol.specs.World.{is-strict};
-ghost use Rattle.world.specs.Settling.{refund-refused-at, refund-refusals, refunded-at, look-refusals, closed-if, On};
+ghost use Rattle.world.specs.Settling.{refund-refused-at, refund-refusals, refunded-at, look-refusals, closed-if, On, Acknowledgeable, Expired};
 ghost use Rattle.world.specs.View.{view, end-view, packet-view, packets-in};
+use super::types::Effect;
 use super::types::End;
+use super::types::Event;
 use super::types::Packet;
 use super::types::Route;
 use super::world::World;
@@ -83,5 +88,68 @@ impl<L: Ledger, F: Book, S: Book> World<L, F, S> {
         if self.keeps_order(route.kind) {
             self.tables.links.close(route.link);
         }
+    }
+
+    // The packet of an acknowledgement and what comes to it, unless the world refuses.
+    fn acknowledgeable(
+        &self,
+        link: usize,
+        direction: usize,
+        sequence: usize,
+    ) -> Result<(Route, usize, Packet, Effect), WorldFault>
+        ensures { λ r. ⌜ Cases r (λ q. Acknowledgeable (view (L·Ledger .meaning) (F·Book .meaning) (S·Book .meaning) (now (self .entry))) link direction sequence (q .0) (q .1) (q .2) (q .3)) (λ f. first (refusals (view (L·Ledger .meaning) (F·Book .meaning) (S·Book .meaning) (now (self .entry))) (acking link direction sequence)) ≡ Some (world-number f)) ⌝ }
+    {
+        let (route, place, packet) = self.packet_on(link, direction, sequence)?;
+        let mark = self.look(route.kind, route.lane, sequence);
+        let blocked = self.keeps_order(route.kind)
+            & self.tables.packets.lower_stands(route.lane, sequence);
+        let effect = packet.step(Event::Acknowledgement { blocked }, mark)?;
+        Ok((route, place, packet, effect))
+    }
+
+    // The packet of a timeout, unless the world refuses.
+    fn expired(
+        &self,
+        link: usize,
+        direction: usize,
+        sequence: usize,
+    ) -> Result<(Route, usize, Packet), WorldFault>
+        ensures { λ r. ⌜ Cases r (λ q. Expired (view (L·Ledger .meaning) (F·Book .meaning) (S·Book .meaning) (now (self .entry))) link direction sequence (q .0) (q .1) (q .2)) (λ f. first (refusals (view (L·Ledger .meaning) (F·Book .meaning) (S·Book .meaning) (now (self .entry))) (timing-out link direction sequence)) ≡ Some (world-number f)) ⌝ }
+    {
+        let (route, place, packet) = self.packet_on(link, direction, sequence)?;
+        let mark = self.look(route.kind, route.lane, sequence);
+        let expired = route.closed | self.tables.has_passed(route.far.chain, packet.timeout);
+        packet.step(Event::Timeout { expired }, mark)?;
+        Ok((route, place, packet))
+    }
+
+    /// Ends the standing of a marked packet. A good mark changes no balance; any other refunds.
+    pub fn ack(&mut self, link: usize, direction: usize, sequence: usize) -> Result<(), WorldFault>
+        ensures answer { λ r. ⌜ said (λ _. done) world-number r ≡ step (view (L·Ledger .meaning) (F·Book .meaning) (S·Book .meaning) (now (self .entry))) (acking link direction sequence) .1 ⌝ }
+        ensures after { λ r. ⌜ view (L·Ledger .meaning) (F·Book .meaning) (S·Book .meaning) (now (self .exit)) ≡ step (view (L·Ledger .meaning) (F·Book .meaning) (S·Book .meaning) (now (self .entry))) (acking link direction sequence) .0 ⌝ }
+    {
+        let (route, place, packet, effect) = self.acknowledgeable(link, direction, sequence)?;
+        if let Effect::EndsWithRefund = effect {
+            return self.refund(route.near, place, &packet);
+        }
+        self.tables.packets.end(place);
+        Ok(())
+    }
+
+    /// Refunds an unmarked packet whose link is closed or whose timeout height is reached. On a strict link it also closes the
+    /// link, both ways.
+    pub fn timeout(
+        &mut self,
+        link: usize,
+        direction: usize,
+        sequence: usize,
+    ) -> Result<(), WorldFault>
+        ensures answer { λ r. ⌜ said (λ _. done) world-number r ≡ step (view (L·Ledger .meaning) (F·Book .meaning) (S·Book .meaning) (now (self .entry))) (timing-out link direction sequence) .1 ⌝ }
+        ensures after { λ r. ⌜ view (L·Ledger .meaning) (F·Book .meaning) (S·Book .meaning) (now (self .exit)) ≡ step (view (L·Ledger .meaning) (F·Book .meaning) (S·Book .meaning) (now (self .entry))) (timing-out link direction sequence) .0 ⌝ }
+    {
+        let (route, place, packet) = self.expired(link, direction, sequence)?;
+        self.refund(route.near, place, &packet)?;
+        self.close_if_strict(&route);
+        Ok(())
     }
 }
