@@ -9,13 +9,13 @@ use Rattle.std.specs.declared.result.Result.{Result}
 use Rattle.std.specs.declared.result.Result.the-variants.{Ok, Err}
 use Rattle.denom.specs.Denomination.{Token}
 use Rattle.protocol.specs.Book.{Book}
-use Rattle.protocol.specs.Calls.{Call, open-link, issue, retire, pay, send, receive, ack, timeout, tick, bar, unbar, home, step}
+use Rattle.protocol.specs.Calls.{Call, step}
 use Rattle.protocol.specs.Laws.{world, open-after, there-is, issued, retired}
 use Rattle.protocol.specs.Ledger.{Ledger}
 use Rattle.protocol.specs.World.{World}
 use Rattle.protocol.proofs.Whole.{conservation, supply-accounted}
 use Rattle.commands.specs.Commands.{Request, call, audit, parsed}
-use Rattle.session.specs.Session.{called, performed, line-by, carried-out}
+use Rattle.session.specs.Session.{performed, line-by, carried-out}
 use Rattle.session.specs.Conservation.{Kept, Conserves, Reached}
 
 -- conservation of the world after a past
@@ -33,22 +33,8 @@ kept l bs past =
 pub conserves : (w : World) → Conserves w
 conserves w l bs past e = subst (Kept l bs past) e (kept l bs past)
 
-called-reaches : (l : Ledger) (bs : Bool → Book) (w : World) (k : Call) → Reached l bs w → Reached l bs (called w k .0)
-called-reaches l bs w (open-link a b s) r = (open-link a b s ∷ r .0, ap (λ (x : World). step x (open-link a b s) .0) (r .1))
-called-reaches l bs w (issue c u s n) r = (issue c u s n ∷ r .0, ap (λ (x : World). step x (issue c u s n) .0) (r .1))
-called-reaches l bs w (retire c u e n) r = (retire c u e n ∷ r .0, ap (λ (x : World). step x (retire c u e n) .0) (r .1))
-called-reaches l bs w (pay c u v e n) r = (pay c u v e n ∷ r .0, ap (λ (x : World). step x (pay c u v e n) .0) (r .1))
-called-reaches l bs w (send c k u v e n t) r = (send c k u v e n t ∷ r .0, ap (λ (x : World). step x (send c k u v e n t) .0) (r .1))
-called-reaches l bs w (receive a d s) r = (receive a d s ∷ r .0, ap (λ (x : World). step x (receive a d s) .0) (r .1))
-called-reaches l bs w (ack a d s) r = r
-called-reaches l bs w (timeout a d s) r = r
-called-reaches l bs w (tick c n) r = (tick c n ∷ r .0, ap (λ (x : World). step x (tick c n) .0) (r .1))
-called-reaches l bs w (bar c u) r = (bar c u ∷ r .0, ap (λ (x : World). step x (bar c u) .0) (r .1))
-called-reaches l bs w (unbar c u) r = (unbar c u ∷ r .0, ap (λ (x : World). step x (unbar c u) .0) (r .1))
-called-reaches l bs w (home c e) r = (home c e ∷ r .0, ap (λ (x : World). step x (home c e) .0) (r .1))
-
 performed-reaches : (l : Ledger) (bs : Bool → Book) (w : World) (q : Request) → Reached l bs w → Reached l bs (performed w q .0)
-performed-reaches l bs w (call k) r = called-reaches l bs w k r
+performed-reaches l bs w (call k) r = (k ∷ r .0, ap (λ (x : World). step x k .0) (r .1))
 performed-reaches l bs w audit r = r
 
 line-reaches : (l : Ledger) (bs : Bool → Book) (w : World) (o : Result (Option Request) ℕ) → Reached l bs w → Reached l bs (line-by w o .0)

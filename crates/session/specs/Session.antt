@@ -8,34 +8,15 @@ use Rattle.std.specs.declared.result.Result.the-variants.{Ok, Err}
 use Rattle.protocol.specs.declared.faults.Fault.{Fault}
 use Rattle.protocol.specs.Faults.{fault-number}
 use Rattle.protocol.specs.World.{World}
-use Rattle.protocol.specs.Calls.{Call, open-link, issue, retire, pay, send, receive, ack, timeout, tick, bar, unbar, home, Answer, no, step}
+use Rattle.protocol.specs.Calls.{Answer, no, step}
 use Rattle.commands.specs.declared.replies.Reply.{Reply}
 use Rattle.commands.specs.Answers.{reply-answer}
 use Rattle.commands.specs.Commands.{Request, call, audit, parsed}
 
--- A request that is not served yet is refused like an unknown command.
-abbrev pub not-yet : World → World × Answer
-not-yet w = (w, no 3)
-
--- what a call comes to
-abbrev pub called : World → Call → World × Answer
-called w (open-link a b k) = step w (open-link a b k)
-called w (issue c u s n) = step w (issue c u s n)
-called w (retire c u e n) = step w (retire c u e n)
-called w (pay c u v e n) = step w (pay c u v e n)
-called w (send c k u v e n t) = step w (send c k u v e n t)
-called w (receive l d s) = step w (receive l d s)
-called w (ack l d s) = not-yet w
-called w (timeout l d s) = not-yet w
-called w (tick c n) = step w (tick c n)
-called w (bar c u) = step w (bar c u)
-called w (unbar c u) = step w (unbar c u)
-called w (home c e) = step w (home c e)
-
--- what a request comes to
+-- What a request comes to: a call is a step of the model; an audit is not served yet, and is refused like an unknown command.
 abbrev pub performed : World → Request → World × Answer
-performed w (call k) = called w k
-performed w audit = not-yet w
+performed w (call k) = step w k
+performed w audit = (w, no 3)
 
 -- what a line that reads so does, and what it answers; a line that is passed over answers nothing
 abbrev pub line-by : World → Result (Option Request) ℕ → World × Option Answer

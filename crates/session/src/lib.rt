@@ -20,7 +20,7 @@ use protocol::FaultFromWorld;
 use protocol::ScriptFault;
 use world::World;
 
-/// Carries out a command. One that is not served yet is refused like an unknown one.
+/// Carries out a command. `audit`, which is not served yet, is refused like an unknown one.
 pub fn perform<L: Ledger, F: Book, S: Book>(
     world: &mut World<L, F, S>,
     command: Command,
@@ -101,8 +101,14 @@ pub fn perform<L: Ledger, F: Book, S: Book>(
             let mark = world.receive(packet.link, packet.direction, packet.sequence)?;
             Ok(Reply::Number(mark.number() as u64))
         }
-        Command::Ack(_) => Err(Fault::Script(ScriptFault::UnknownCommand)),
-        Command::Timeout(_) => Err(Fault::Script(ScriptFault::UnknownCommand)),
+        Command::Ack(packet) => {
+            world.ack(packet.link, packet.direction, packet.sequence)?;
+            Ok(Reply::Done)
+        }
+        Command::Timeout(packet) => {
+            world.timeout(packet.link, packet.direction, packet.sequence)?;
+            Ok(Reply::Done)
+        }
         Command::Home {
             chain,
             denomination,
