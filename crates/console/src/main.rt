@@ -1,27 +1,20 @@
 // Reads a script from standard input and answers it line by line on standard output.
 use account_bank::AccountBank;
 use account_bank::AccountBankLedger;
-use books::Book;
 use books::FreeBook;
 use books::FreeBookBook;
 use books::StrictBook;
 use books::StrictBookBook;
-use commands::MOST_ANSWER;
 use commands::MOST_SCRIPT;
-use commands::Reply;
 use commands::is_too_long;
-use commands::write_answer;
 use layers::Barring;
 use layers::BarringLedger;
 use layers::Beside;
 use layers::BesideLedger;
-use ledger::Ledger;
 use note_bank::NoteBank;
 use note_bank::NoteBankLedger;
 use note_bank::Place;
-use protocol::Fault;
-use script::Script;
-use session::carry_out;
+use session::answer_lines;
 use std::error::AnyError;
 use std::io;
 use std::io::BufWriter;
@@ -45,37 +38,7 @@ fn fill(input: &mut impl Read, buffer: &mut [u8]) -> io::Result<usize> {
     Ok(len)
 }
 
-// Writes the answer to a line.
-fn print_answer(
-    out: &mut impl Write,
-    number: usize,
-    answer: Result<Reply, Fault>,
-) -> io::Result<()> {
-    let mut buffer = [0; MOST_ANSWER];
-    match write_answer(&mut buffer, number, answer) {
-        Some(len) if len <= MOST_ANSWER => out.write_all(&buffer[0..len]),
-        _ => Ok(()),
-    }
-}
-
-// Answers the lines of a script, one after another.
-fn answer_all<L: Ledger, F: Book, S: Book>(
-    world: &mut World<L, F, S>,
-    text: &[u8],
-    out: &mut impl Write,
-) -> io::Result<()> {
-    let mut script = Script::over(text);
-    while let Some((number, line)) = script.next_line() {
-        match carry_out(world, line) {
-            Ok(None) => {}
-            Ok(Some(reply)) => print_answer(out, number, Ok(reply))?,
-            Err(fault) => print_answer(out, number, Err(fault))?,
-        }
-    }
-    Ok(())
-}
-
-// Answers the script in the first `len` bytes of the text.
+// Puts a world together and answers a script on it.
 fn answer_script(text: &[u8], rt: &LibcRuntime) -> Result<(), AnyError> {
     let heap = rt.alloc();
     let mut out = BufWriter::new(rt.stdout());
@@ -88,7 +51,7 @@ fn answer_script(text: &[u8], rt: &LibcRuntime) -> Result<(), AnyError> {
     let notes = NoteBank::new(vec![in heap; Place::Free; 1024]?);
     let ledger = Barring::new(Beside::new(accounts, notes));
     let mut world = World::new(ledger, FreeBook::new(), StrictBook::new());
-    answer_all(&mut world, text, &mut out)?;
+    answer_lines(&mut world, text, &mut out)?;
     out.flush()?;
     Ok(())
 }

@@ -10,14 +10,19 @@ ghost use Rattle.session.specs.Session.{performed, carried-out, some-answer};
 ghost use Rattle.world.specs.View.{view};
 use books::Book;
 use commands::Command;
+use commands::MOST_ANSWER;
 use commands::Reply;
 use commands::parse_line;
+use commands::write_answer;
 use denom::TokenId;
 use ledger::Ledger;
 use protocol::Fault;
 use protocol::FaultFromScript;
 use protocol::FaultFromWorld;
 use protocol::ScriptFault;
+use script::Script;
+use std::io;
+use std::io::Write;
 use world::World;
 
 /// Carries out a command. `audit`, which is not served yet, is refused like an unknown one.
@@ -152,4 +157,51 @@ pub fn carry_out<L: Ledger, F: Book, S: Book>(
     ensures conserved { λ r. ⌜ Conserves (view (L·Ledger .meaning) (F·Book .meaning) (S·Book .meaning) (now (world .exit))) ⌝ }
 {
     carry_line(world, line)
+}
+
+// Writes the answer to a line.
+fn print_answer(
+    out: &mut impl Write,
+    number: usize,
+    answer: Result<Reply, Fault>,
+) -> io::Result<()> {
+    let mut buffer = [0; MOST_ANSWER];
+    match write_answer(&mut buffer, number, answer) {
+        Some(len) if len <= MOST_ANSWER => out.write_all(&buffer[0..len]),
+        _ => Ok(()),
+    }
+}
+
+// Carries out a line and writes its answer, if it has one.
+fn answer_line<L: Ledger, F: Book, S: Book>(
+    world: &mut World<L, F, S>,
+    number: usize,
+    line: &[u8],
+    out: &mut impl Write,
+) -> io::Result<()>
+    ensures reached { λ r. ⌜ ((l : Meaning) (bs : Bool → BookMeaning) → Reached l bs (view (L·Ledger .meaning) (F·Book .meaning) (S·Book .meaning) (now (world .entry))) → Reached l bs (view (L·Ledger .meaning) (F·Book .meaning) (S·Book .meaning) (now (world .exit)))) ⌝ }
+    ensures conserved { λ r. ⌜ Conserves (view (L·Ledger .meaning) (F·Book .meaning) (S·Book .meaning) (now (world .exit))) ⌝ }
+{
+    match carry_out(world, line) {
+        Ok(None) => Ok(()),
+        Ok(Some(reply)) => print_answer(out, number, Ok(reply)),
+        Err(fault) => print_answer(out, number, Err(fault)),
+    }
+}
+
+/// Carries out a script line by line, and writes each answer as it comes. A world that calls have reached is left as one that
+/// calls have reached, and conservation holds of it.
+pub fn answer_lines<L: Ledger, F: Book, S: Book>(
+    world: &mut World<L, F, S>,
+    text: &[u8],
+    out: &mut impl Write,
+) -> io::Result<()>
+    ensures reached { λ r. ⌜ ((l : Meaning) (bs : Bool → BookMeaning) → Reached l bs (view (L·Ledger .meaning) (F·Book .meaning) (S·Book .meaning) (now (world .entry))) → Reached l bs (view (L·Ledger .meaning) (F·Book .meaning) (S·Book .meaning) (now (world .exit)))) ⌝ }
+    ensures conserved { λ r. ⌜ Conserves (view (L·Ledger .meaning) (F·Book .meaning) (S·Book .meaning) (now (world .exit))) ⌝ }
+{
+    let mut script = Script::over(text);
+    while let Some((number, line)) = script.next_line() {
+        answer_line(world, number, line, out)?;
+    }
+    Ok(())
 }
