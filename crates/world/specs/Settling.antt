@@ -7,7 +7,7 @@ use lib.Dec.{eqb}
 use Rattle.denom.specs.Denomination.{came-by}
 use Rattle.protocol.specs.House.{escrow-account}
 use Rattle.protocol.specs.Refusals.{Refusal, _when_, first}
-use Rattle.protocol.specs.Ledger.{moved, credited, move-refusals, credit-refusals}
+use Rattle.protocol.specs.Ledger.{Ledger, Balances, moved, credited, move-refusals, credit-refusals}
 use Rattle.protocol.specs.Book.{is-one}
 use Rattle.protocol.specs.World.{World, End, lane, mark-at, registered, number}
 use Rattle.protocol.specs.World as protocol
@@ -24,9 +24,25 @@ goes-back Arrives = false
 goes-back Ends = false
 goes-back EndsWithRefund = true
 
--- A refund of packet p at the end n that it was sent from.
+-- A refund of packet p, whose denomination has number d, at the end n that it was sent from.
 
--- whether it is refused
+-- what the ledger is asked for: to credit what was burnt, or to move what went into escrow back
+abbrev pub back-refusals : Ledger → End → protocol.Packet → ℕ → List Refusal
+back-refusals l n p d =
+    cond
+    (came-by (n .channel) (p .denom))
+    (credit-refusals l (n .chain) (p .sender) d (p .amount))
+    (move-refusals l (n .chain) (escrow-account (n .channel)) (p .sender) d (p .amount))
+
+-- and what it then makes of the balances
+abbrev pub back-balances : Balances → End → protocol.Packet → ℕ → Balances
+back-balances b n p d =
+    cond
+    (came-by (n .channel) (p .denom))
+    (credited b (n .chain) (p .sender) d (p .amount))
+    (moved b (n .chain) (escrow-account (n .channel)) (p .sender) d (p .amount))
+
+-- whether the refund is refused
 abbrev pub refund-refused-at : World → End → protocol.Packet → Bool
 refund-refused-at w n p =
     let d = number w (n .chain) (p .denom) in
@@ -42,14 +58,7 @@ refund-refusals w n p = 34 when refund-refused-at w n p ∷ []
 
 -- the world in which the sender has it back
 abbrev pub refunded-at : World → End → protocol.Packet → World
-refunded-at w n p =
-    let d = number w (n .chain) (p .denom) in
-    with-bal
-    w
-    (cond
-    (came-by (n .channel) (p .denom))
-    (credited (w .ledger .balance) (n .chain) (p .sender) d (p .amount))
-    (moved (w .ledger .balance) (n .chain) (escrow-account (n .channel)) (p .sender) d (p .amount)))
+refunded-at w n p = with-bal w (back-balances (w .ledger .balance) n p (number w (n .chain) (p .denom)))
 
 -- link l is closed, if strict says so
 abbrev pub closed-if : World → ℕ → Bool → World

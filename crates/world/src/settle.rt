@@ -5,13 +5,13 @@ ghost use Prim.Native.Nat.{ℕ, _<_};
 ghost use lib.ListN.{length};
 ghost use Rattle.std.specs.Results.{Cases, isErr};
 ghost use Rattle.std.specs.declared.option.Option.the-variants.{Some};
-ghost use Rattle.protocol.specs.Calls.{step, said, refusals, ended};
+ghost use Rattle.protocol.specs.Calls.{step, said, refusals, with-bal, ended};
 ghost use Rattle.protocol.specs.Calls.Answer.{done};
 ghost use Rattle.protocol.specs.Calls.Call.{ack as acking, timeout as timing-out};
-ghost use Rattle.protocol.specs.Faults.{world-number, told-by};
+ghost use Rattle.protocol.specs.Faults.{world-number, ledger-number, told-by};
 ghost use Rattle.protocol.specs.Refusals.{Refusal, first, answer-unless, left-by};
 ghost use Rattle.protocol.specs.World.{is-strict};
-ghost use Rattle.world.specs.Settling.{refund-refused-at, refund-refusals, refunded-at, look-refusals, closed-if, On, Acknowledgeable, Expired};
+ghost use Rattle.world.specs.Settling.{back-refusals, back-balances, refund-refused-at, refund-refusals, refunded-at, look-refusals, closed-if, On, Acknowledgeable, Expired};
 ghost use Rattle.world.specs.View.{view, end-view, packet-view, packets-in};
 use super::types::Effect;
 use super::types::End;
@@ -44,14 +44,11 @@ impl<L: Ledger, F: Book, S: Book> World<L, F, S> {
         Ok((route, place, self.tables.packets.at(place)))
     }
 
-    // Gives back what a packet carries: a credit of what was burnt, else a move out of escrow.
-    fn pay_back(&mut self, near: End, packet: &Packet) -> Result<(), LedgerFault>
-        ensures answer { λ r. ⌜ isErr r ≡ refund-refused-at (view (L·Ledger .meaning) (F·Book .meaning) (S·Book .meaning) (now (self .entry))) (end-view near) (packet-view (now (packet .entry))) ⌝ }
-        ensures after { λ r. ⌜ view (L·Ledger .meaning) (F·Book .meaning) (S·Book .meaning) (now (self .exit)) ≡ left-by r (view (L·Ledger .meaning) (F·Book .meaning) (S·Book .meaning) (now (self .entry))) (refunded-at (view (L·Ledger .meaning) (F·Book .meaning) (S·Book .meaning) (now (self .entry))) (end-view near) (packet-view (now (packet .entry)))) ⌝ }
+    // Credits what was burnt, and moves anything else back out of the channel's escrow.
+    fn give_back(&mut self, near: End, packet: &Packet, number: usize) -> Result<(), LedgerFault>
+        ensures answer { λ r. ⌜ told-by ledger-number r ≡ answer-unless (back-refusals (L·Ledger .meaning (now (self .entry) .ledger)) (end-view near) (packet-view (now (packet .entry))) number) tt ⌝ }
+        ensures after { λ r. ⌜ view (L·Ledger .meaning) (F·Book .meaning) (S·Book .meaning) (now (self .exit)) ≡ left-by r (view (L·Ledger .meaning) (F·Book .meaning) (S·Book .meaning) (now (self .entry))) (with-bal (view (L·Ledger .meaning) (F·Book .meaning) (S·Book .meaning) (now (self .entry))) (back-balances (L·Ledger .meaning (now (self .entry) .ledger) .balance) (end-view near) (packet-view (now (packet .entry))) number)) ⌝ }
     {
-        let Some(number) = self.tables.number_of(near.chain, &packet.denomination) else {
-            return Err(LedgerFault::NoSuchDenomination);
-        };
         if packet.denomination.came_by(near.channel) {
             return self.ledger
                 .credit(near.chain, packet.sender, number, packet.amount);
@@ -63,6 +60,17 @@ impl<L: Ledger, F: Book, S: Book> World<L, F, S> {
             number,
             packet.amount,
         )
+    }
+
+    // Gives back what a packet carries, if its chain knows the denomination.
+    fn pay_back(&mut self, near: End, packet: &Packet) -> Result<(), LedgerFault>
+        ensures answer { λ r. ⌜ isErr r ≡ refund-refused-at (view (L·Ledger .meaning) (F·Book .meaning) (S·Book .meaning) (now (self .entry))) (end-view near) (packet-view (now (packet .entry))) ⌝ }
+        ensures after { λ r. ⌜ view (L·Ledger .meaning) (F·Book .meaning) (S·Book .meaning) (now (self .exit)) ≡ left-by r (view (L·Ledger .meaning) (F·Book .meaning) (S·Book .meaning) (now (self .entry))) (refunded-at (view (L·Ledger .meaning) (F·Book .meaning) (S·Book .meaning) (now (self .entry))) (end-view near) (packet-view (now (packet .entry)))) ⌝ }
+    {
+        let Some(number) = self.tables.number_of(near.chain, &packet.denomination) else {
+            return Err(LedgerFault::NoSuchDenomination);
+        };
+        self.give_back(near, packet, number)
     }
 
     // Undoes a send: gives back what the packet at a place carries, and ends its standing.
