@@ -1,8 +1,8 @@
 -- What looking for a packet on a route tells.
-use mathlib.Core.Path.{_≡_, refl, sym, ap, _∙_}
-use mathlib.Core.Bool.{Bool, true, false, cond, not, _&&_, _||_}
-use mathlib.Core.List.{List, [], _∷_}
-use Prim.Native.Nat.{ℕ, _/_, _<_, _≤_}
+use mathlib.Core.Path.{_≡_, sym, ap, _∙_}
+use mathlib.Core.Bool.{Bool, false, not, _&&_, _||_}
+use mathlib.Core.List.{[], _∷_}
+use Prim.Native.Nat.{ℕ, _<_}
 use native.Mathlib.Omega.{arith}
 use borrow.Author.Tests.{ltb-true}
 use lib.Dec.{eqb, leb, ltb}
@@ -14,11 +14,11 @@ use Rattle.std.proofs.shelf.Tests.{eqb-true, and-parts}
 use Rattle.std.proofs.shelf.Ways.{tells}
 use Rattle.register.specs.Keys.{number-of, found}
 use Rattle.protocol.specs.declared.marks.Mark.{Mark}
-use Rattle.protocol.specs.Book.{Book, mark-number, marked, lower-marked, take-refusals}
+use Rattle.protocol.specs.Book.{Book, mark-number, marked, lower-marked}
 use Rattle.protocol.specs.Refusals.{first, _when_}
-use Rattle.protocol.specs.World.{World, End, lane, link-kind, book-of, is-strict}
+use Rattle.protocol.specs.World.{World, End, lane, book-of, is-strict}
 use Rattle.protocol.specs.World as protocol
-use Rattle.protocol.specs.Calls.{receive, refusals, opened, has-packet, packet-at, packet-place, no-packet, passed, lower-stands}
+use Rattle.protocol.specs.Calls.{receive, refusals, has-packet, packet-at, packet-place, no-packet, passed, lower-stands}
 use Rattle.protocol.proofs.Places.{place-hit}
 use Rattle.world.specs.declared.types.Packet.{Packet}
 use Rattle.world.specs.declared.types.Route.{Route}
@@ -28,7 +28,7 @@ use Rattle.std.specs.declared.result.Result.the-variants.{Ok}
 use Rattle.world.specs.Receiving.{Receivable}
 use Rattle.world.specs.Packets.{is-packet, stands-below, packet-step}
 use Rattle.world.specs.Routes.{Leads, Looked}
-use Rattle.world.specs.View.{packet-view, stands}
+use Rattle.world.specs.View.{packet-view}
 use Rattle.world.proofs.Kept.{number-some, number-none}
 use Rattle.world.proofs.Steps.{some-mapped, after-step, receipt-step, arrives-unmarked}
 

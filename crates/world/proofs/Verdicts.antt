@@ -1,5 +1,5 @@
 -- What a call comes to, once it is known which refusal applies first, or that none does.
-use mathlib.Core.Path.{_≡_, refl, ap}
+use mathlib.Core.Path.{_≡_, ap}
 use Prim.Native.Nat.{ℕ}
 use native.Mathlib.Omega.{arith}
 use Rattle.std.specs.declared.option.Option.{Option}
@@ -7,7 +7,7 @@ use Rattle.std.specs.declared.option.Option.the-variants.{Some, None}
 use Rattle.std.specs.declared.result.Result.the-variants.{Err}
 use Rattle.protocol.specs.Refusals.{first, unless-refused}
 use Rattle.protocol.specs.World.{World}
-use Rattle.protocol.specs.Calls.{Call, Answer, no, refusals, outcome, settled-by, step}
+use Rattle.protocol.specs.Calls.{Call, no, refusals, outcome, settled-by, step}
 
 pub refused-by : (w : World) (k : Call) (n : ℕ) → first (refusals w k) ≡ Some n → step w k ≡ (w, no n)
 refused-by w k n e = ap (λ (o : Option ℕ). settled-by o w (outcome w k)) e
