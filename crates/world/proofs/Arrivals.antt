@@ -8,7 +8,7 @@ use lib.ListN.{getD}
 use Rattle.std.specs.declared.option.Option.the-variants.{None}
 use Rattle.denom.specs.Denomination.{came-by}
 use Rattle.protocol.specs.Refusals.{first}
-use Rattle.protocol.specs.Book.{Book, taken, take-refusals}
+use Rattle.protocol.specs.Book.{taken, take-refusals}
 use Rattle.protocol.specs.World.{World, Link, lane, near, far, from-end, to-end, link-kind, is-strict, no-link}
 use Rattle.protocol.specs.World as protocol
 use Rattle.protocol.specs.Calls.{packet-at, arrival-mark, delivered, with-books, same-kind, mark-written}

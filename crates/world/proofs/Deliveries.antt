@@ -1,17 +1,16 @@
 -- What a packet's arrival comes to, once it is known what register and ledger said.
 use mathlib.Core.Path.{_≡_, refl, sym, ap, _∙_}
 use mathlib.Core.Bool.{Bool, true, false, cond, not, _&&_, _||_}
-use Prim.Native.Nat.{ℕ, _<_}
+use Prim.Native.Nat.{ℕ}
 use native.Mathlib.Omega.{arith}
 use lib.Dec.{leb}
 use lib.ListN.{length}
 use Rattle.std.specs.declared.option.Option.{Option}
 use Rattle.std.specs.declared.option.Option.the-variants.{Some, None}
 use Rattle.std.specs.Options.{isSome}
-use Rattle.std.proofs.shelf.Ways.{tells}
-use Rattle.register.specs.Keys.{number-of, place}
+use Rattle.register.specs.Keys.{number-of}
 use Rattle.denom.specs.Denomination.{Denom, same-denom, stripped, behind}
-use Rattle.protocol.specs.House.{escrow-account, hops-most, denoms-most}
+use Rattle.protocol.specs.House.{escrow-account, denoms-most}
 use Rattle.protocol.specs.Refusals.{first}
 use Rattle.protocol.specs.Ledger.{credited, moved, credit-refusals, move-refusals}
 use Rattle.protocol.specs.World.{World, End, registered, number}

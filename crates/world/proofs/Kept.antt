@@ -2,16 +2,14 @@
 use mathlib.Core.Path.{_≡_, refl, sym, ap, _∙_}
 use mathlib.Core.Bool.{Bool, true, false, cond}
 use mathlib.Core.List.{List, [], _∷_, _++_, map}
-use Prim.Native.Nat.{ℕ, suc, _+_, _<_, _≤_}
+use Prim.Native.Nat.{ℕ, suc, _+_, _≤_}
 use native.Mathlib.Omega.{arith}
 use borrow.Author.Tests.{ltb-true}
 use lib.Dec.{ltb}
 use lib.ListN.{length, take, set, length-map}
-use Rattle.std.specs.Options.{isSome}
 use Rattle.std.specs.declared.option.Option.{Option}
 use Rattle.std.specs.declared.option.Option.the-variants.{Some, None}
 use Rattle.register.specs.Keys.{place, found, number-of, kept, kept-count, kept-number}
-use Rattle.register.proofs.Places.{some-found}
 use Rattle.world.specs.Registers.{joined}
 use Rattle.world.proofs.Rows.{row-pushed, length-rows}
 
@@ -33,10 +31,6 @@ number-some p xs n e = go (found p xs) refl e
     go : (b : Bool) → found p xs ≡ b → _≡_ {A = Option ℕ} (cond b (Some (place p xs)) None) (Some n) → (found p xs ≡ true) × (place p xs ≡ n)
     go true t f = (t, cc)
     go false t f = let z : _≡_ {A = ℕ} 0 1 = cc in absurd (omega arith)
-
--- no number was answered: no row was found
-pub number-none : {X : Type 0} (p : X → Bool) (xs : List X) → number-of p xs ≡ None → found p xs ≡ false
-number-none p xs e = sym (some-found p xs) ∙ ap isSome e
 
 -- What a key offered to a table of `room` places, the first n of them taken, is answered, and what the keys stand for then.
 module _ {X Y : Type 0} (f : X → Y) (p : Y → Bool) (ks : List X) (n room : ℕ) (full : length ks ≡ room) (within : n ≤ length ks) where

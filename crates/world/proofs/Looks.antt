@@ -1,24 +1,24 @@
 -- What looking for a packet on a route tells.
-use mathlib.Core.Path.{_≡_, refl, sym, ap, _∙_}
-use mathlib.Core.Bool.{Bool, true, false, cond, not, _&&_, _||_}
-use mathlib.Core.List.{List, [], _∷_}
-use Prim.Native.Nat.{ℕ, _/_, _<_, _≤_}
+use mathlib.Core.Path.{_≡_, sym, ap, _∙_}
+use mathlib.Core.Bool.{Bool, false, not, _&&_, _||_}
+use mathlib.Core.List.{[], _∷_}
+use Prim.Native.Nat.{ℕ}
 use native.Mathlib.Omega.{arith}
 use borrow.Author.Tests.{ltb-true}
 use lib.Dec.{eqb, leb, ltb}
 use lib.ListN.{length, getD}
 use Rattle.std.specs.declared.option.Option.{Option}
-use Rattle.std.specs.declared.option.Option.the-variants.{Some, None}
+use Rattle.std.specs.declared.option.Option.the-variants.{Some}
 use Rattle.std.specs.Options.{isSome, mapped}
 use Rattle.std.proofs.shelf.Tests.{eqb-true, and-parts}
 use Rattle.std.proofs.shelf.Ways.{tells}
 use Rattle.register.specs.Keys.{number-of, found}
 use Rattle.protocol.specs.declared.marks.Mark.{Mark}
-use Rattle.protocol.specs.Book.{Book, mark-number, marked, lower-marked, take-refusals}
+use Rattle.protocol.specs.Book.{Book, mark-number, marked, lower-marked}
 use Rattle.protocol.specs.Refusals.{first, _when_}
-use Rattle.protocol.specs.World.{World, End, lane, link-kind, book-of, is-strict}
+use Rattle.protocol.specs.World.{World, End, lane, book-of, is-strict}
 use Rattle.protocol.specs.World as protocol
-use Rattle.protocol.specs.Calls.{receive, refusals, opened, has-packet, packet-at, packet-place, no-packet, passed, lower-stands}
+use Rattle.protocol.specs.Calls.{receive, refusals, packet-at, packet-place, no-packet, passed, lower-stands}
 use Rattle.protocol.proofs.Places.{place-hit}
 use Rattle.world.specs.declared.types.Packet.{Packet}
 use Rattle.world.specs.declared.types.Route.{Route}
@@ -28,22 +28,14 @@ use Rattle.std.specs.declared.result.Result.the-variants.{Ok}
 use Rattle.world.specs.Receiving.{Receivable}
 use Rattle.world.specs.Packets.{is-packet, stands-below, packet-step}
 use Rattle.world.specs.Routes.{Leads, Looked}
-use Rattle.world.specs.View.{packet-view, stands}
-use Rattle.world.proofs.Kept.{number-some, number-none}
+use Rattle.world.specs.View.{packet-view}
+use Rattle.world.proofs.Kept.{number-some}
 use Rattle.world.proofs.Steps.{some-mapped, after-step, receipt-step, arrives-unmarked}
 
 module _ (w : World) (l d s : ℕ) (q : Route) (leads : Leads (w .links) (w .closed) l d q) where
   -- the look was on the lane
   on-its-lane : (o : Option ℕ) → o ≡ number-of (is-packet (q .lane) s) (w .packets) → number-of (is-packet (lane l d) s) (w .packets) ≡ o
   on-its-lane o e = ap (λ i. number-of (is-packet i s) (w .packets)) (sym (leads .lane-is)) ∙ sym e
-
-  pub has-none : None ≡ number-of (is-packet (q .lane) s) (w .packets) → has-packet w (lane l d) s ≡ false
-  has-none e = number-none (is-packet (lane l d) s) (w .packets) (on-its-lane None e)
-
-  pub place-within : (n : ℕ) → Some n ≡ number-of (is-packet (q .lane) s) (w .packets) → n < length (w .packets)
-  place-within n e =
-      let at = number-some (is-packet (lane l d) s) (w .packets) n (on-its-lane (Some n) e) in
-      omega (arith, at .1, ltb-true (packet-place w (lane l d) s) (length (w .packets)) (at .0))
 
   pub looked : (n : ℕ) (p : Packet) → Some n ≡ number-of (is-packet (q .lane) s) (w .packets) → packet-view p ≡ getD (w .packets) n no-packet → Looked w l d s n p
   looked n p e is =

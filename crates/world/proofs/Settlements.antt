@@ -1,9 +1,8 @@
 -- Acknowledgements and timeouts in the words of the world, from what look, step and refund said.
 use mathlib.Core.Path.{_≡_, refl, sym, ap, _∙_}
-use mathlib.Core.Bool.{Bool, true, false, cond, not, _&&_, _||_}
+use mathlib.Core.Bool.{Bool, true, false, not, _&&_, _||_}
 use mathlib.Core.List.{List, [], _∷_}
 use Prim.Native.Nat.{ℕ, _<_}
-use lib.Dec.{ltb, leb}
 use lib.ListN.{length}
 use Rattle.std.proofs.shelf.Ways.{tells}
 use native.Mathlib.Omega.{arith}
@@ -26,7 +25,7 @@ use Rattle.world.specs.declared.types.Event.the-variants.{Acknowledgement, Tim
 use Rattle.world.specs.declared.types.Packet.{Packet}
 use Rattle.world.specs.declared.types.Route.{Route}
 use Rattle.world.specs.Packets.{packet-step}
-use Rattle.world.specs.Settling.{refund-refused-at, refund-refusals, refunded-at, goes-back, closed-if, On, Acknowledgeable, Expired}
+use Rattle.world.specs.Settling.{refund-refused-at, refunded-at, goes-back, closed-if, On, Expired}
 use Rattle.world.specs.View.{end-view, packet-view}
 use Rattle.world.proofs.Steps.{after-step, acknowledgement-step, timeout-step}
 use Rattle.world.proofs.Verdicts.{refused-by, accepted}

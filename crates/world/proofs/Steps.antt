@@ -1,6 +1,6 @@
 -- What a packet's step tells of the refusals that stand in its place.
-use mathlib.Core.Path.{_≡_, refl, sym, ap, _∙_}
-use mathlib.Core.Bool.{Bool, true, false, cond, not}
+use mathlib.Core.Path.{_≡_, refl}
+use mathlib.Core.Bool.{Bool, true, false, not}
 use mathlib.Core.List.{List, _∷_}
 use Prim.Native.Nat.{ℕ}
 use native.Mathlib.Omega.{arith}
@@ -14,7 +14,7 @@ use Rattle.protocol.specs.declared.marks.Mark.the-variants.{Good, TooManyHops, 
 use Rattle.protocol.specs.declared.faults.WorldFault.{WorldFault}
 use Rattle.protocol.specs.Faults.{world-number}
 use Rattle.protocol.specs.Refusals.{Refusal, _when_, first}
-use Rattle.protocol.specs.Book.{mark-number, is-one}
+use Rattle.protocol.specs.Book.{mark-number}
 use Rattle.world.specs.declared.types.Standing.{Standing}
 use Rattle.world.specs.declared.types.Standing.the-variants.{Stands, Ended}
 use Rattle.world.specs.declared.types.Event.the-variants.{Receipt, Acknowledgement, Timeout}

@@ -7,7 +7,7 @@ use Rattle.std.specs.declared.option.Option.the-variants.{Some, None}
 use Rattle.std.specs.declared.result.Result.the-variants.{Err}
 use Rattle.protocol.specs.Refusals.{first, unless-refused}
 use Rattle.protocol.specs.World.{World}
-use Rattle.protocol.specs.Calls.{Call, open-link, issue, retire, pay, send, receive, ack, timeout, tick, bar, unbar, home, Answer, no, refusals, outcome, settled-by, step}
+use Rattle.protocol.specs.Calls.{Call, open-link, issue, retire, pay, send, receive, ack, timeout, tick, bar, unbar, home, no, refusals, outcome, settled-by, step}
 
 pub refused-by : (w : World) (k : Call) (n : ℕ) → first (refusals w k) ≡ Some n → step w k ≡ (w, no n)
 refused-by w k n e = ap (λ (o : Option ℕ). settled-by o w (outcome w k)) e

@@ -1,12 +1,12 @@
 -- What the checks of a send tell before the ledger is asked.
 use mathlib.Core.Path.{_≡_}
-use mathlib.Core.Bool.{Bool, false, cond}
+use mathlib.Core.Bool.{false, cond}
 use mathlib.Core.List.{List, [], _∷_}
 use Prim.Native.Nat.{ℕ, _<_}
 use lib.Dec.{eqb}
 use lib.ListN.{length}
 use Rattle.denom.specs.Denomination.{Denom, came-by}
-use Rattle.protocol.specs.House.{chains-most, channels-most, users, packets-most, denoms-most, escrow-account}
+use Rattle.protocol.specs.House.{channels-most, users, packets-most, denoms-most, escrow-account}
 use Rattle.protocol.specs.Refusals.{Refusal, _when_, first}
 use Rattle.protocol.specs.Ledger.{Ledger, Balances, is-barred, too-small, debited, moved, debit-refusals, move-refusals}
 use Rattle.protocol.specs.World.{World, lane-out, number}

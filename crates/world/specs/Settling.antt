@@ -11,7 +11,7 @@ use Rattle.protocol.specs.Ledger.{Ledger, Balances, moved, credited, move-refus
 use Rattle.protocol.specs.Book.{is-one}
 use Rattle.protocol.specs.World.{World, End, lane, mark-at, registered, number}
 use Rattle.protocol.specs.World as protocol
-use Rattle.protocol.specs.Calls.{Call, ack, timeout, refusals, refused, opened, has-packet, refund-refused, packet-at, with-bal, with-closed}
+use Rattle.protocol.specs.Calls.{ack, timeout, refusals, refused, opened, has-packet, refund-refused, packet-at, with-bal, with-closed}
 use Rattle.world.specs.declared.types.Effect.{Effect}
 use Rattle.world.specs.declared.types.Effect.the-variants.{Arrives, Ends, EndsWithRefund}
 use Rattle.world.specs.declared.types.Packet.{Packet}

@@ -1,4 +1,4 @@
-use mathlib.Core.Path.{_≡_, refl, sym, ap, _∙_}
+use mathlib.Core.Path.{sym}
 use native.Mathlib.Omega.{arith}
 use Rattle.protocol.specs.World.{same-end, end-at}
 use Rattle.world.proofs.Ends.{first-end, second-end, passed-more, passed-all}

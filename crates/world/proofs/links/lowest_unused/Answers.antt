@@ -1,13 +1,12 @@
-use mathlib.Core.Path.{_≡_, refl, sym, ap, _∙_}
+use mathlib.Core.Path.{_≡_, sym, ap, _∙_}
 use mathlib.Core.Bool.{Bool, true, false, not}
 use mathlib.Core.List.{map}
-use Prim.Native.Nat.{ℕ, _+_}
-use native.Mathlib.Omega.{arith}
+use Prim.Native.Nat.{ℕ}
 use Rattle.std.specs.Options.{isSome}
 use Rattle.register.proofs.Places.{some-found}
 use Rattle.protocol.specs.World.{same-end, end-at, ends, in-use, lowest-unused}
 use Rattle.world.specs.View.{link-view}
-use Rattle.world.proofs.Ends.{Searched, lowest-here, searched-more, lowest-none}
+use Rattle.world.proofs.Ends.{lowest-here, searched-more, lowest-none}
 use Rattle.world.proofs.links.lowest_unused.Needs as need
 
 pub returns-then-is-none : need.returns-then-is-none

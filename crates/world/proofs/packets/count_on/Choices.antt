@@ -1,4 +1,3 @@
-use mathlib.Core.Bool.{Bool}
 use lib.Dec.{eqb}
 use Rattle.world.specs.declared.types.Packet.{Packet}
 use Rattle.world.proofs.Counts.{Tallied}

@@ -1,4 +1,4 @@
-use mathlib.Core.Path.{_≡_, sym}
+use mathlib.Core.Path.{sym}
 use native.Mathlib.Omega.{arith}
 use Rattle.register.proofs.Places.{number-here, passed-more, number-none}
 use Rattle.world.specs.Packets.{stands-below}

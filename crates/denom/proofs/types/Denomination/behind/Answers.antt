@@ -1,14 +1,12 @@
 use mathlib.Core.Path.{_≡_, refl, sym, ap, _∙_}
-use mathlib.Core.Bool.{Bool, true, false, _||_, cond}
-use Prim.Native.Nat.{ℕ, _<_, _≤_}
+use mathlib.Core.Bool.{Bool, false, _||_, cond}
 use native.Mathlib.Omega.{arith}
 use lib.Dec.{leb}
-use lib.ListN.{length, getD, take}
+use lib.ListN.{length, take}
 use lib.Seq.{length-take-le}
 use Rattle.std.proofs.shelf.Ways.{tells}
-use Rattle.std.specs.declared.option.Option.{Option}
 use Rattle.std.specs.declared.option.Option.the-variants.{Some, None}
-use Rattle.denom.specs.Denomination.{Denom, behind}
+use Rattle.denom.specs.Denomination.{behind}
 use Rattle.denom.specs.Views.{denom-view}
 use Rattle.denom.proofs.Shifts.{six-channels, hop-in-front}
 use Rattle.denom.proofs.types.Denomination.behind.Needs as need

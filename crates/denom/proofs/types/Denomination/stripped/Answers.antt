@@ -1,7 +1,6 @@
-use mathlib.Core.Path.{_≡_, refl, sym, ap, _∙_}
-use Prim.Native.Nat.{ℕ, _-_}
+use mathlib.Core.Path.{refl}
+use Prim.Native.Nat.{_-_}
 use native.Mathlib.Omega.{arith}
-use lib.ListN.{getD, take}
 use lib.Dec.{lit<}
 use Rattle.denom.specs.Views.{denom-view}
 use Rattle.denom.proofs.Shifts.{six-channels, hop-taken-off}

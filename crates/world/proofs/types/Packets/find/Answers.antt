@@ -1,4 +1,4 @@
-use mathlib.Core.Path.{_≡_, sym, ap, _∙_}
+use mathlib.Core.Path.{sym, ap, _∙_}
 use Rattle.register.specs.Keys.{number-of}
 use Rattle.world.specs.Packets.{is-packet}
 use Rattle.world.specs.View.{packet-view}

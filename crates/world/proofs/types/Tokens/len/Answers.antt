@@ -1,4 +1,4 @@
-use mathlib.Core.Path.{_≡_, sym, ap, _∙_}
+use mathlib.Core.Path.{sym, ap, _∙_}
 use lib.ListN.{length, length-map}
 use Rattle.denom.specs.Views.{token-view}
 use Rattle.world.proofs.types.Tokens.len.Needs as need

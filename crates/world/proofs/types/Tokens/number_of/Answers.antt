@@ -1,4 +1,4 @@
-use mathlib.Core.Path.{_≡_, sym, ap, _∙_}
+use mathlib.Core.Path.{sym, ap, _∙_}
 use Rattle.register.specs.Keys.{number-of}
 use Rattle.denom.specs.Denomination.{same-token}
 use Rattle.denom.specs.Views.{token-view}

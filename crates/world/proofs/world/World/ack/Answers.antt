@@ -1,11 +1,10 @@
-use mathlib.Core.Path.{_≡_, refl, sym, ap, _∙_}
-use mathlib.Core.Bool.{Bool, true, false, cond, not, _&&_}
+use mathlib.Core.Path.{_≡_, sym, ap, _∙_}
+use mathlib.Core.Bool.{true, false, cond, not, _&&_}
 use mathlib.Core.List.{[], _∷_}
 use Rattle.std.specs.declared.option.Option.the-variants.{None}
 use Rattle.protocol.specs.Refusals.{first, _when_, left-by}
 use Rattle.protocol.specs.World.{World, lane}
 use Rattle.protocol.specs.Calls.{Answer, ack, done, refusals, packet-at, packet-place, refund-refused, refunded, ended, with-packets}
-use Rattle.world.specs.declared.types.Effect.{Effect}
 use Rattle.world.specs.Settling.{goes-back, refund-refusals}
 use Rattle.world.specs.View.{view, end-view, packet-view}
 use Rattle.world.proofs.Settlements.{refund-same, refunded-same, not-back, verdict}

@@ -1,8 +1,5 @@
-use mathlib.Core.Path.{_≡_, sym, ap, _∙_}
-use Rattle.protocol.specs.Faults.{ledger-number}
-use Rattle.protocol.specs.Ledger.{Ledger}
+use mathlib.Core.Path.{sym, _∙_}
 use Rattle.protocol.specs.Calls.{with-ledger}
-use Rattle.denom.specs.Views.{denom-view}
 use Rattle.ledger.proofs.Answers.{free-from-ok}
 use Rattle.world.specs.View.{view, end-view, packet-view}
 use Rattle.world.proofs.Deliveries.{home-good, home-refused, home-left}

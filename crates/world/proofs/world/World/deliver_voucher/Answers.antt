@@ -1,7 +1,6 @@
-use mathlib.Core.Path.{_≡_, sym, ap, _∙_}
+use mathlib.Core.Path.{sym, _∙_}
 use Rattle.denom.specs.Views.{denom-view}
 use Rattle.protocol.specs.Calls.{with-ledger, enrolled}
-use Rattle.protocol.specs.World.{World}
 use Rattle.ledger.proofs.Answers.{free-from-ok}
 use Rattle.world.specs.View.{view, end-view, packet-view}
 use Rattle.world.proofs.Deliveries.{voucher-good, voucher-refused, voucher-left}

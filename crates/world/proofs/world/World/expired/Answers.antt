@@ -1,4 +1,4 @@
-use mathlib.Core.Path.{_≡_, sym, ap, _∙_}
+use mathlib.Core.Path.{sym}
 use mathlib.Core.Bool.{_||_}
 use Rattle.std.proofs.shelf.Results.{err-from-errBy}
 use Rattle.world.specs.View.{view}

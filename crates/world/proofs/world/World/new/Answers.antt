@@ -1,6 +1,5 @@
-use mathlib.Core.Path.{_≡_, refl, sym, ap, _∙_, fun-ext}
+use mathlib.Core.Path.{_≡_, fun-ext}
 use mathlib.Core.Bool.{Bool, true, false}
-use Prim.Native.Nat.{ℕ}
 use Rattle.protocol.specs.Book.{Book, wiped}
 use Rattle.world.specs.View.{two-books}
 use Rattle.world.proofs.world.World.new.Needs as need

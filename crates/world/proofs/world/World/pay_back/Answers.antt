@@ -1,4 +1,4 @@
-use mathlib.Core.Path.{_≡_, sym}
+use mathlib.Core.Path.{sym}
 use Rattle.world.specs.View.{view, end-view, packet-view}
 use Rattle.world.proofs.Refunds.{back-refused, back-left}
 use Rattle.world.proofs.world.World.pay_back.Needs as need

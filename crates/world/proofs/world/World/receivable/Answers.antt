@@ -1,4 +1,4 @@
-use mathlib.Core.Path.{_≡_, sym, _∙_}
+use mathlib.Core.Path.{sym, _∙_}
 use Rattle.world.specs.View.{view}
 use Rattle.world.proofs.Looks.{looked, height-passed, marked-same, waits-same, receivable}
 use Rattle.world.proofs.world.World.receivable.Needs as need

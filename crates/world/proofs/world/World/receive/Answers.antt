@@ -3,7 +3,6 @@ use Prim.Native.Nat.{ℕ}
 use native.Mathlib.Omega.{arith}
 use Rattle.std.specs.declared.option.Option.{Option}
 use Rattle.std.specs.declared.option.Option.the-variants.{Some, None}
-use Rattle.protocol.specs.Faults.{book-number}
 use Rattle.protocol.specs.Book.{mark-number}
 use Rattle.protocol.specs.Calls.{receive, says}
 use Rattle.world.specs.View.{view}

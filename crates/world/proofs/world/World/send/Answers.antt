@@ -1,13 +1,12 @@
-use mathlib.Core.Path.{_≡_, refl, sym, ap, _∙_}
-use mathlib.Core.Bool.{Bool, true, false}
-use mathlib.Core.List.{List, [], _∷_, _++_}
-use Prim.Native.Nat.{ℕ, suc, _+_, _<_, _≤_}
+use mathlib.Core.Path.{_≡_, sym, ap, _∙_}
+use mathlib.Core.Bool.{true}
+use mathlib.Core.List.{List}
+use Prim.Native.Nat.{ℕ, _+_, _<_}
 use native.Mathlib.Omega.{arith}
 use borrow.Author.Needs.{needs}
 use lib.Dec.{eqb}
 use lib.ListN.{length}
 use Rattle.std.proofs.shelf.Results.{err-from-errBy}
-use Rattle.std.specs.declared.option.Option.{Option}
 use Rattle.std.specs.declared.option.Option.the-variants.{Some, None}
 use Rattle.std.specs.declared.result.Result.{Result}
 use Rattle.sums.specs.Sums.{count}
@@ -18,8 +17,8 @@ use Rattle.protocol.specs.declared.faults.WorldFault.{WorldFault}
 use Rattle.protocol.specs.Faults.{world-number, ledger-number}
 use Rattle.protocol.specs.Refusals.{first}
 use Rattle.protocol.specs.World.{World, Packet, number, lane-out}
-use Rattle.protocol.specs.Calls.{Answer, send, says, no, said, refusals, with-bal, with-packets, recorded, sent-off, sent-packet, next-sequence}
-use Rattle.world.specs.View.{view, packets-in}
+use Rattle.protocol.specs.Calls.{send, says, no, said, refusals, with-bal, with-packets, recorded, sent-off, next-sequence}
+use Rattle.world.specs.View.{view}
 use Rattle.world.specs.declared.types.Route.{Route}
 use Rattle.world.specs.Sending.{Sendable, off-refusals, off-balances, taking-refusals}
 use Rattle.world.proofs.Counts.{count-le}

@@ -1,16 +1,16 @@
-use mathlib.Core.Path.{_≡_, refl, sym, ap, _∙_}
-use mathlib.Core.Bool.{Bool, true, false, not, _&&_, _||_}
-use Prim.Native.Nat.{ℕ, _<_, _/_}
+use mathlib.Core.Path.{_≡_, sym, ap, _∙_}
+use mathlib.Core.Bool.{true, false, not, _&&_, _||_}
+use Prim.Native.Nat.{_/_}
 use native.Mathlib.Omega.{arith}
 use borrow.Author.Tests.{ltb-true}
-use lib.Dec.{eqb, leb, ltb}
+use lib.Dec.{eqb, leb}
 use lib.ListN.{length}
 use Rattle.std.proofs.shelf.Ways.{tells}
 use Rattle.denom.specs.Denomination.{same-denom}
 use Rattle.denom.specs.Views.{denom-view}
-use Rattle.protocol.specs.World.{End, lane-out, registered, to-end}
+use Rattle.protocol.specs.World.{End, lane-out}
 use Rattle.protocol.specs.Calls.{served, passed}
-use Rattle.world.specs.View.{view, denoms-of}
+use Rattle.world.specs.View.{view}
 use Rattle.world.proofs.Kept.{number-some}
 use Rattle.world.proofs.Sendings.{send-left, register-few}
 use Rattle.world.proofs.world.World.sendable.Needs as need
