@@ -1,5 +1,5 @@
 -- What a line of a script does to a world, and what it answers.
-use mathlib.Core.List.{List}
+use mathlib.Core.List.{List, [], _∷_}
 use Prim.Native.Nat.{ℕ}
 use Rattle.std.specs.declared.option.Option.{Option}
 use Rattle.std.specs.declared.option.Option.the-variants.{Some, None}
@@ -33,3 +33,8 @@ abbrev pub some-answer : Result (Option Reply) Fault → Option Answer
 some-answer (Ok None) = None
 some-answer (Ok (Some r)) = Some (reply-answer r)
 some-answer (Err f) = Some (no (fault-number f))
+
+-- the world after lines that are carried out one after another
+abbrev pub script-after : World → List (List ℕ) → World
+script-after w [] = w
+script-after w (line ∷ others) = script-after (carried-out w line .0) others

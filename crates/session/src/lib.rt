@@ -6,7 +6,9 @@ ghost use mathlib.Core.Bool.{Bool};
 ghost use Rattle.protocol.specs.Book.{Book as BookMeaning};
 ghost use Rattle.protocol.specs.Ledger.{Ledger as Meaning};
 ghost use Rattle.session.specs.Conservation.{Reached, Conserves};
-ghost use Rattle.session.specs.Session.{performed, carried-out, some-answer};
+ghost use Rattle.session.specs.Session.{performed, carried-out, some-answer, script-after};
+ghost use Rattle.script.specs.Lines.{lines};
+ghost use Rattle.std.specs.Vec.{made};
 ghost use Rattle.world.specs.View.{view};
 use books::Book;
 use commands::Command;
@@ -179,6 +181,7 @@ fn answer_line<L: Ledger, F: Book, S: Book>(
     line: &[u8],
     out: &mut impl Write,
 ) -> io::Result<()>
+    ensures after { λ r. ⌜ view (L·Ledger .meaning) (F·Book .meaning) (S·Book .meaning) (now (world .exit)) ≡ carried-out (view (L·Ledger .meaning) (F·Book .meaning) (S·Book .meaning) (now (world .entry))) (now (line .entry)) .0 ⌝ }
     ensures reached { λ r. ⌜ ((l : Meaning) (bs : Bool → BookMeaning) → Reached l bs (view (L·Ledger .meaning) (F·Book .meaning) (S·Book .meaning) (now (world .entry))) → Reached l bs (view (L·Ledger .meaning) (F·Book .meaning) (S·Book .meaning) (now (world .exit)))) ⌝ }
     ensures conserved { λ r. ⌜ Conserves (view (L·Ledger .meaning) (F·Book .meaning) (S·Book .meaning) (now (world .exit))) ⌝ }
 {
@@ -189,13 +192,14 @@ fn answer_line<L: Ledger, F: Book, S: Book>(
     }
 }
 
-/// Carries out a script line by line, and writes each answer as it comes. A world that calls have reached is left as one that
+/// Carries out a script line by line, and writes each answer as it comes; it stops where an answer cannot be written. A world that calls have reached is left as one that
 /// calls have reached, and conservation holds of it.
 pub fn answer_lines<L: Ledger, F: Book, S: Book>(
     world: &mut World<L, F, S>,
     text: &[u8],
     out: &mut impl Write,
 ) -> io::Result<()>
+    ensures after { λ r. ⌜ made r (λ _. view (L·Ledger .meaning) (F·Book .meaning) (S·Book .meaning) (now (world .exit)) ≡ script-after (view (L·Ledger .meaning) (F·Book .meaning) (S·Book .meaning) (now (world .entry))) (lines (now (text .entry)))) ⌝ }
     ensures reached { λ r. ⌜ ((l : Meaning) (bs : Bool → BookMeaning) → Reached l bs (view (L·Ledger .meaning) (F·Book .meaning) (S·Book .meaning) (now (world .entry))) → Reached l bs (view (L·Ledger .meaning) (F·Book .meaning) (S·Book .meaning) (now (world .exit)))) ⌝ }
     ensures conserved { λ r. ⌜ Conserves (view (L·Ledger .meaning) (F·Book .meaning) (S·Book .meaning) (now (world .exit))) ⌝ }
 {
