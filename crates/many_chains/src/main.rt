@@ -1,4 +1,4 @@
-// Runs a script over three chains, whose links have different channel numbers at their two ends.
+// Runs a script over four chains, whose links have different channel numbers at their two ends.
 use account_bank::AccountBank;
 use account_bank::AccountBankLedger;
 use books::FreeBook;
@@ -81,6 +81,28 @@ ack 5 0 1
 ack 4 0 9
 home 0 ore
 home 3 ore
+home 4 ore
+# the printed example on a link of its own
+open 0 3 free
+issue 0 8 silver 100
+send 0 3 8 5 silver 40 0
+receive 5 0 1
+send 3 0 5 3 transfer/channel-0/silver 10 0
+home 3 transfer/channel-0/silver
+# all sixteen links, which take all channels of the four chains
+open 0 3 strict
+open 0 3 free
+open 1 3 free
+open 3 1 free
+open 2 3 free
+open 3 2 free
+open 2 3 strict
+open 0 1 free
+open 1 2 free
+open 0 2 free
+open 0 1 free
+open 0 0 free
+open 0 4 free
 ";
 
 fn main(rt: LibcRuntime) -> Result<(), AnyError> {
@@ -89,7 +111,8 @@ fn main(rt: LibcRuntime) -> Result<(), AnyError> {
     let first = AccountBank::new(vec![in heap; 0u64; 768]?);
     let second = NoteBank::new(vec![in heap; Place::Free; 1024]?);
     let third = AccountBank::new(vec![in heap; 0u64; 768]?);
-    let ledger = Barring::new(Beside::new(Beside::new(first, second), third));
+    let fourth = NoteBank::new(vec![in heap; Place::Free; 1024]?);
+    let ledger = Barring::new(Beside::new(Beside::new(first, second), Beside::new(third, fourth)));
     let mut world = World::new(ledger, FreeBook::new(), StrictBook::new());
     answer_lines(&mut world, SCRIPT, &mut out)?;
     out.flush()?;
