@@ -362,15 +362,15 @@ fine_outcome w (ack l d s) g h r = go (is_one (mark_at w (lane l d) s)) (ack_fac
     go :
         (b : Bool) → (not b && refund_refused w (packet_at w (lane l d) s)) ≡ false →
         Fine (ended (cond b w (refunded w (packet_at w (lane l d) s))) (packet_place w (lane l d) s))
-    go true _ = fine_ended w (packet_place w (lane l d) s) (ack_facts w l d s r).0.IsPlace-in h
+    go true _ = fine_ended w (packet_place w (lane l d) s) (ack_facts w l d s r).0.place_in h
     go false x =
-        fine_ended (refunded w (packet_at w (lane l d) s)) (packet_place w (lane l d) s) (ack_facts w l d s r).0.IsPlace-in
+        fine_ended (refunded w (packet_at w (lane l d) s)) (packet_place w (lane l d) s) (ack_facts w l d s r).0.place_in
         (fine_refunded w (packet_at w (lane l d) s) g h (sound_at w (lane l d) s g (ack_facts w l d s r).0) x)
 fine_outcome w (timeout l d s) g h r =
     let f = timeout_facts w l d s r in
     let i = lane l d in
     let p = packet_at w i s in
-    let x = fine_ended (refunded w p) (packet_place w i s) f.0.IsPlace-in (fine_refunded w p g h (sound_at w i s g f.0) f.2) in
+    let x = fine_ended (refunded w p) (packet_place w i s) f.0.place_in (fine_refunded w p g h (sound_at w i s g f.0) f.2) in
     record { lawful = x.lawful; links = x.links; packets = x.packets; tokens = x.tokens; registers = x.registers; heights = x.heights; paid = x.paid }
 fine_outcome w (tick c n) g h r =
     record {

@@ -67,9 +67,9 @@ module _ (w : World) where
       go :
           (b : Bool) →
           Adds (ack l d s) (ended (cond b w (refunded w (packet_at w (lane l d) s))) (packet_place w (lane l d) s), done)
-      go true = ended_adds (packet_place w (lane l d) s) (ack_facts w l d s h).0.IsPlace-in
-      go false = ended_adds (packet_place w (lane l d) s) (ack_facts w l d s h).0.IsPlace-in
-  adds_outcome (timeout l d s) h = ended_adds (packet_place w (lane l d) s) (timeout_facts w l d s h).0.IsPlace-in
+      go true = ended_adds (packet_place w (lane l d) s) (ack_facts w l d s h).0.place_in
+      go false = ended_adds (packet_place w (lane l d) s) (ack_facts w l d s h).0.place_in
+  adds_outcome (timeout l d s) h = ended_adds (packet_place w (lane l d) s) (timeout_facts w l d s h).0.place_in
   adds_outcome (tick c n) h = none_added
   adds_outcome (bar c u) h = none_added
   adds_outcome (unbar c u) h = none_added

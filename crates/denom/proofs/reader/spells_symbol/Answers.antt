@@ -7,5 +7,5 @@ use Rattle.denom.proofs.reader.spells_symbol.Goals as goal
 pub returns : goal.returns
 returns c =
     let text = c.args.text.now in
-    (λ i. (c.is-letter.ensures i && leb (length text) 16) && (c.all-letters-or-digits.ensures ∙ ap (each letter_or_digit) (take_rest text 1)) i)
-    ∙ symbol_is text (omega (arith, false-eqb _ 0 c.if-is-empty.ensures))
+    (λ i. (c.is_letter.ensures i && leb (length text) 16) && (c.all_letters_or_digits.ensures ∙ ap (each letter_or_digit) (take_rest text 1)) i)
+    ∙ symbol_is text (omega (arith, false-eqb _ 0 c.if-is_empty.ensures))

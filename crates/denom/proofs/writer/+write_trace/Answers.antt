@@ -5,10 +5,10 @@ use Rattle.denom.specs.Text.{hop_mark, trace_text}
 use Rattle.denom.proofs.Joins.{into_into, no_hops, first_hop, channel}
 use Rattle.denom.proofs.writer.+write_trace.Goals as goal
 
-pub returns-then-is-empty : goal.returns-then-is-empty
-returns-then-is-empty t c =
+pub returns-then-is_empty : goal.returns-then-is_empty
+returns-then-is_empty t c =
     let told = c.bytes.ensures in
-    let whole = sym (no_hops c.args.hops.now c.args.symbol.now (true-eqb _ 0 c.if-is-empty.ensures)) in
+    let whole = sym (no_hops c.args.hops.now c.args.symbol.now (true-eqb _ 0 c.if-is_empty.ensures)) in
     record {
       at = told.at ∙ ap (λ l. c.args.line.now.at + length l) whole;
       room = told.room;
@@ -16,15 +16,15 @@ returns-then-is-empty t c =
       lender = told.lender;
     }
 
-pub overflow-add-digit : goal.overflow-add-digit
-overflow-add-digit t c =
-    let some : 0 < length c.args.hops.now = omega (arith, false-eqb _ 0 c.if-is-empty.ensures) in
+pub overflow_add-digit : goal.overflow_add-digit
+overflow_add-digit t c =
+    let some : 0 < length c.args.hops.now = omega (arith, false-eqb _ 0 c.if-is_empty.ensures) in
     omega (arith, (channel c.args.hops.now some c.requires.channels).0)
 
-pub write-trace-requires : goal.write-trace-requires
-write-trace-requires t c =
+pub write_trace-requires : goal.write_trace-requires
+write_trace-requires t c =
     let hops = c.args.hops.now in
-    let some : 0 < length hops = omega (arith, false-eqb _ 0 c.if-is-empty.ensures) in
+    let some : 0 < length hops = omega (arith, false-eqb _ 0 c.if-is_empty.ensures) in
     let less : length (take (length hops - 1) (drop 1 hops)) + 1 ≡ length hops = omega (arith, ap length (take_rest hops 1), length-drop 1 hops) in (
       omega (arith, less, c.decreases),
       (
@@ -39,12 +39,12 @@ returns t c =
     let line = c.args.line.now in
     let digit = (48 + get_or hops 0 0) ∷ 47 ∷ [] in
     let rest = trace_text (take (length hops - 1) (drop 1 hops)) c.args.symbol.now in
-    let some : 0 < length hops = omega (arith, false-eqb _ 0 c.if-is-empty.ensures) in
+    let some : 0 < length hops = omega (arith, false-eqb _ 0 c.if-is_empty.ensures) in
     let whole = first_hop hops c.args.symbol.now some in
     let fits : line.at ≤ length line.buffer.now = omega (arith, c.requires.room) in
     let b2 = c.bytes-2.ensures in
     let b3 = c.bytes-3.ensures in
-    let told = c.write-trace.ensures in
+    let told = c.write_trace.ensures in
     let first : c.bytes-3.new.self.buffer.now ≡ into (hop_mark ++ digit) line.at line.buffer.now =
     b3.buffer ∙ (λ i. into digit (b2.at i) (b2.buffer i)) ∙ into_into hop_mark digit line.at line.buffer.now fits
     in

@@ -11,31 +11,31 @@ use Rattle.denom.proofs.writer.write_denomination.Goals as goal
 few : {X : Type 0} (n : ℕ) (xs : List X) → length (take n xs) ≤ n
 few n xs = omega (arith, length-take n xs)
 
-pub write-trace-requires : goal.write-trace-requires
-write-trace-requires c =
+pub write_trace-requires : goal.write_trace-requires
+write_trace-requires c =
     let d = c.args.denomination.now in
     let P : List ℕ → Type 0 = λ l. each (λ h. ltb h 8) l ≡ true in
     record {
       room = omega (
         arith,
-        ap length c.as-slice.ensures,
-        ap length c.as-slice-2.ensures,
+        ap length c.as_slice.ensures,
+        ap length c.as_slice-2.ensures,
         few d.hops.count d.hops.at,
         few d.symbol.len d.symbol.bytes,
         d.hops.few,
         d.symbol.few,
         c.requires,
       );
-      channels = subst P (sym c.as-slice.ensures) (channels_each d.hops.at d.hops.count d.hops.channels);
+      channels = subst P (sym c.as_slice.ensures) (channels_each d.hops.at d.hops.count d.hops.channels);
     }
 
 pub returns : goal.returns
 returns c =
     let d = c.args.denomination.now in
     let line = c.args.line.now in
-    let told = c.write-trace.ensures in
-    let whole : trace_text c.as-slice.result.now c.as-slice-2.result.now ≡ trace_text (hops_of d.hops) (symbol_of d.symbol) =
-    λ i. trace_text (c.as-slice.ensures i) (c.as-slice-2.ensures i)
+    let told = c.write_trace.ensures in
+    let whole : trace_text c.as_slice.result.now c.as_slice-2.result.now ≡ trace_text (hops_of d.hops) (symbol_of d.symbol) =
+    λ i. trace_text (c.as_slice.ensures i) (c.as_slice-2.ensures i)
     in
     let at = told.at ∙ ap (λ l. line.at + length l) whole in
     record {

@@ -14,18 +14,18 @@ returns-then-n-lt10 t c =
     let some : 0 < length c.args.out.now = omega (arith, ap length e, c.requires) in
     record { answer = sym (ap length e); buffer = drop-set c.args.out.now 0 (48 + c.args.n) some ∙ sym (ap (λ ds. over ds c.args.out.now) e) }
 
-pub write-figure-at-requires : goal.write-figure-at-requires
-write-figure-at-requires t c = (omega arith, omega (arith, length_figure_step c.args.n c.if-n-lt10.false, c.requires))
+pub write_figure-at-requires : goal.write_figure-at-requires
+write_figure-at-requires t c = (omega arith, omega (arith, length_figure_step c.args.n c.if-n-lt10.false, c.requires))
 
 pub bounds-out-at : goal.bounds-out-at
-bounds-out-at t c = omega (arith, length_figure_step c.args.n c.if-n-lt10.false, c.requires, c.write-figure-at.ensures.answer, c.write-figure-at.auto.out)
+bounds-out-at t c = omega (arith, length_figure_step c.args.n c.if-n-lt10.false, c.requires, c.write_figure-at.ensures.answer, c.write_figure-at.auto.out)
 
-pub overflow-add-result : goal.overflow-add-result
-overflow-add-result t c = omega (arith, length_figure_step c.args.n c.if-n-lt10.false, length_figure_le 39 c.args.n (omega arith) (omega arith), c.write-figure-at.ensures.answer)
+pub overflow_add-result : goal.overflow_add-result
+overflow_add-result t c = omega (arith, length_figure_step c.args.n c.if-n-lt10.false, length_figure_le 39 c.args.n (omega arith) (omega arith), c.write_figure-at.ensures.answer)
 
 pub returns : goal.returns
 returns t c =
-    let told = c.write-figure-at.ensures in
+    let told = c.write_figure-at.ensures in
     let out = c.args.out.now in
     let ds = figure (c.args.n / 10) in
     let d = 48 + c.args.n % 10 in

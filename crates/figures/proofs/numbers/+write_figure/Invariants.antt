@@ -1,4 +1,4 @@
 use Rattle.figures.proofs.numbers.+write_figure.Given as goal
 
-abbrev pub decreases-write-figure : goal.decreases-write-figure
-decreases-write-figure l = l.n
+abbrev pub decreases-write_figure : goal.decreases-write_figure
+decreases-write_figure l = l.n

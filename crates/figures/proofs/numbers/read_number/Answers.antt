@@ -5,12 +5,12 @@ use Rattle.figures.proofs.Numerals.{digit_value, none_read, none_empty, none_led
 use Rattle.figures.proofs.numbers.read_number.Goals as goal
 use Rattle.figures.proofs.numbers.read_number.Goals.{then-b-lt48-via-then-b-lt48, then-b-lt48-via-else-b-lt48+then-b-gt57}
 
-pub returns-then-is-empty : goal.returns-then-is-empty
-returns-then-is-empty c = none_read _ (none_empty c.args.text.now (true-eqb _ 0 c.if-is-empty.ensures))
+pub returns-then-is_empty : goal.returns-then-is_empty
+returns-then-is_empty c = none_read _ (none_empty c.args.text.now (true-eqb _ 0 c.if-is_empty.ensures))
 
-pub returns-then-has-leading-zero : goal.returns-then-has-leading-zero
-returns-then-has-leading-zero c =
-    let led = leads c.args.text.now c.if-has-leading-zero.ensures in
+pub returns-then-has_leading_zero : goal.returns-then-has_leading_zero
+returns-then-has_leading_zero c =
+    let led = leads c.args.text.now c.if-has_leading_zero.ensures in
     none_read _ (none_led c.args.text.now led.0 led.1)
 
 pub returns-then-b-lt48 : goal.returns-then-b-lt48
@@ -39,6 +39,6 @@ pub returns : goal.returns
 returns c =
     let text = c.args.text.now in
     let all = take_all c.loop-b.b-index text c.loop-b-test.false in
-    let some : 0 < length text = omega (arith, false-eqb _ 0 c.if-is-empty.ensures) in
+    let some : 0 < length text = omega (arith, false-eqb _ 0 c.if-is_empty.ensures) in
     some_number text c.loop-b.n (subst (AllDigits 10) all c.loop-b.invariant.1) (c.loop-b.invariant.2 ∙ ap (digits_value 10) all) c.loop-b.invariant.0 some
-    (leads_not c.args.text.now c.if-has-leading-zero.ensures some)
+    (leads_not c.args.text.now c.if-has_leading_zero.ensures some)

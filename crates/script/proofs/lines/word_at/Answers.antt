@@ -16,14 +16,14 @@ left end bs line i e inv = ap (λ x. pieces x bs) e ∙ inv
 
 pub loop-preserved : goal.loop-preserved
 loop-preserved c =
-    let told = c.next-piece.ensures in
+    let told = c.next_piece.ensures in
     let inv = c.loop.invariant in
     let end = c.loop.words.end in
     let before = drop c.loop.words.at c.loop.words.text.now in
-    let after = drop c.next-piece.new.self.at c.next-piece.new.self.text.now in (
+    let after = drop c.next_piece.new.self.at c.next_piece.new.self.text.now in (
       told.end ∙ inv.0,
       ap (λ x. pieces x after) (sym inv.0)
-          ∙ next_rest end before (option_map (λ p. p.now) c.next-piece.result) after told.piece
+          ∙ next_rest end before (option_map (λ p. p.now) c.next_piece.result) after told.piece
           ∙ ap (drop 1) (left end before c.args.line.now c.loop.counter inv.0 inv.1)
           ∙ drop-drop 1 c.loop.counter (words c.args.line.now),
     )

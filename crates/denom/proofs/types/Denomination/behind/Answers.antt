@@ -5,10 +5,10 @@ use Rattle.denom.specs.Views.{denom_view}
 use Rattle.denom.proofs.Shifts.{six_channels, hop_in_front}
 use Rattle.denom.proofs.types.Denomination.behind.Goals as goal
 
-pub invariant-of-hops : goal.invariant-of-hops
-invariant-of-hops c =
+pub invariant_of-hops : goal.invariant_of-hops
+invariant_of-hops c =
     let all = c.args.self.now.hops.channels in
-    (refl, (omega arith, (six_channels _ _ _ _ _ _ (omega arith) (all 0) (all 1) (all 2) (all 3) (all 4), tt)))
+    record { six = refl; few = omega arith; channels = six_channels _ _ _ _ _ _ (omega arith) (all 0) (all 1) (all 2) (all 3) (all 4) }
 
 pub returns : goal.returns
 returns c =

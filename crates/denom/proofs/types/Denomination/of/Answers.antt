@@ -7,7 +7,7 @@ use Rattle.denom.proofs.types.Denomination.of.Goals as goal
 pub returns-in-Ok-of : goal.returns-in-Ok-of
 returns-in-Ok-of c =
     let told = c.in-Ok.ensures in
-    put_together (denom_of c.args.text.now) _ (hops_of c.read-denomination.new.hops) (symbol_of c.in-Ok-of.symbol) told.answer told.held c.in-Ok-of.ensures.1
+    put_together (denom_of c.args.text.now) _ (hops_of c.read_denomination.new.hops) (symbol_of c.in-Ok-of.symbol) told.answer told.held c.in-Ok-of.ensures.1
 
 pub returns-in-Err-of : goal.returns-in-Err-of
 returns-in-Err-of c =

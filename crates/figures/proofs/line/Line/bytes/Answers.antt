@@ -4,7 +4,7 @@ use Rattle.figures.proofs.line.Line.bytes.Goals as goal
 
 pub returns : goal.returns
 returns c =
-    let made = laid c.args.text.now c.args.self.now.at c.args.self.now.buffer.now _ c.put-bytes.ensures in
+    let made = laid c.args.text.now c.args.self.now.at c.args.self.now.buffer.now _ c.put_bytes.ensures in
     record {
       room = ap length made ∙ length_into c.args.text.now c.args.self.now.at c.args.self.now.buffer.now c.requires;
       at = refl;

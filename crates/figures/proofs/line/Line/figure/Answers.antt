@@ -4,16 +4,16 @@ use Rattle.figures.specs.Figures.{figure}
 use Rattle.figures.proofs.Parts.{laid, length_into, piece}
 use Rattle.figures.proofs.line.Line.figure.Goals as goal
 
-pub write-figure-wrote-requires : goal.write-figure-wrote-requires
-write-figure-wrote-requires c =
+pub write_figure-wrote-requires : goal.write_figure-wrote-requires
+write_figure-wrote-requires c =
     rw (take_rest c.args.self.now.buffer.now c.args.self.now.at) (omega (arith, c.requires, length-drop c.args.self.now.at c.args.self.now.buffer.now))
 
-pub overflow-add-self : goal.overflow-add-self
-overflow-add-self c = omega (arith, c.requires, c.write-figure-wrote.ensures.answer)
+pub overflow_add-self : goal.overflow_add-self
+overflow_add-self c = omega (arith, c.requires, c.write_figure-wrote.ensures.answer)
 
 pub returns : goal.returns
 returns c =
-    let told = c.write-figure-wrote.ensures in
+    let told = c.write_figure-wrote.ensures in
     let made = laid (figure c.args.n) c.args.self.now.at c.args.self.now.buffer.now _ told.buffer in
     record {
       room = ap length made ∙ length_into (figure c.args.n) c.args.self.now.at c.args.self.now.buffer.now c.requires;

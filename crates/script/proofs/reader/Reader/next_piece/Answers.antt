@@ -19,11 +19,11 @@ pub returns-then-n-rest : goal.returns-then-n-rest
 returns-then-n-rest c =
     let text = c.args.self.now.text.now in
     let at = c.args.self.now.at in
-    let n = c.find-end-n.result in
+    let n = c.find_end-n.result in
     let rest = take (length text - at) (drop at text) in
     let front = ap (λ k. take k rest) (sub-zero n) in
     record {
-      piece = next_cut c.args.self.now.end at n text rest (take_rest text at) c.find-end-n.ensures.before _ front c.if-n-rest.true (c.find-end-n.ensures.stops c.if-n-rest.true);
+      piece = next_cut c.args.self.now.end at n text rest (take_rest text at) c.find_end-n.ensures.before _ front c.if-n-rest.true (c.find_end-n.ensures.stops c.if-n-rest.true);
       place = placed n rest _ _ (take_rest text at) front;
       onward = (omega arith, search rules);
       text = refl;
@@ -34,10 +34,10 @@ pub returns : goal.returns
 returns c =
     let text = c.args.self.now.text.now in
     let at = c.args.self.now.at in
-    let n = c.find-end-n.result in
+    let n = c.find_end-n.result in
     let rest = take (length text - at) (drop at text) in
     record {
-      piece = next_whole c.args.self.now.end at n text rest (take_rest text at) c.find-end-n.ensures.before (omega (arith, ap length (take_rest text at), length-drop at text, c.if-self.false)) (omega (arith, c.find-end-n.ensures.within, c.if-n-rest.false));
+      piece = next_whole c.args.self.now.end at n text rest (take_rest text at) c.find_end-n.ensures.before (omega (arith, ap length (take_rest text at), length-drop at text, c.if-self.false)) (omega (arith, c.find_end-n.ensures.within, c.if-n-rest.false));
       place = placed (length rest) rest _ _ (take_rest text at) (sym (take_all (length rest) rest (omega arith)));
       onward = (omega (arith, ap length (take_rest text at), length-drop at text, c.if-self.false, c.if-n-rest.false), search rules);
       text = refl;
