@@ -5,13 +5,13 @@ use Rattle.tables.specs.View.{link_view}
 use Rattle.tables.proofs.Ends.{lowest_here, searched_more, lowest_none}
 use Rattle.tables.proofs.links.lowest_unused.Goals as goal
 
-pub returns-then-is-none : goal.returns-then-is-none
+pub returns-then-is_none : goal.returns-then-is_none
 unfolding lowest_unused
-returns-then-is-none c =
+returns-then-is_none c =
     let links = map link_view c.args.links.now in
     let q : ℕ → Bool = λ k. not (in_use links c.args.chain k) in
     let unused : in_use links c.args.chain c.loop-channel.channel ≡ false =
-    sym (some_found (same_end (end_at c.args.chain c.loop-channel.channel)) (ends links)) ∙ ap is_some (sym c.lane-out.ensures) ∙ c.if-is-none.ensures
+    sym (some_found (same_end (end_at c.args.chain c.loop-channel.channel)) (ends links)) ∙ ap is_some (sym c.lane_out.ensures) ∙ c.if-is_none.ensures
     in
     lowest_here q 8 c.loop-channel.channel c.loop-channel-test.true c.loop-channel.invariant (ap not unused)
 
@@ -20,7 +20,7 @@ loop-channel-preserved c =
     let links = map link_view c.args.links.now in
     let q : ℕ → Bool = λ k. not (in_use links c.args.chain k) in
     let used : in_use links c.args.chain c.loop-channel.channel ≡ true =
-    sym (some_found (same_end (end_at c.args.chain c.loop-channel.channel)) (ends links)) ∙ ap is_some (sym c.lane-out.ensures) ∙ c.if-is-none.ensures
+    sym (some_found (same_end (end_at c.args.chain c.loop-channel.channel)) (ends links)) ∙ ap is_some (sym c.lane_out.ensures) ∙ c.if-is_none.ensures
     in
     searched_more q 8 c.loop-channel.channel c.loop-channel-test.true c.loop-channel.invariant (ap not used)
 

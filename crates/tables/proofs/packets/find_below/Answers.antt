@@ -5,8 +5,8 @@ use Rattle.tables.specs.View.{packet_view}
 use Rattle.tables.specs.declared.types.Packet.{Packet}
 use Rattle.tables.proofs.packets.find_below.Goals as goal
 
-pub returns-then-stands-below : goal.returns-then-stands-below
-returns-then-stands-below c =
+pub returns-then-stands_below : goal.returns-then-stands_below
+returns-then-stands_below c =
     number_here
     (λ (p : Packet). stands_below c.args.lane c.args.sequence (packet_view p))
     c.args.packets.now
@@ -14,7 +14,7 @@ returns-then-stands-below c =
     c.index-packets-i.result
     c.loop-i-test.true
     c.index-packets-i.is
-    (sym c.if-stands-below.ensures)
+    (sym c.if-stands_below.ensures)
     c.loop-i.invariant
 
 pub loop-i-preserved : goal.loop-i-preserved
@@ -26,7 +26,7 @@ loop-i-preserved c =
     c.index-packets-i.result
     c.loop-i-test.true
     c.index-packets-i.is
-    (sym c.if-stands-below.ensures)
+    (sym c.if-stands_below.ensures)
     c.loop-i.invariant
 
 pub returns : goal.returns

@@ -4,4 +4,4 @@ use Rattle.denom.specs.Views.{denom_view}
 use Rattle.tables.proofs.types.Denominations.len.Goals as goal
 
 pub returns : goal.returns
-returns c = sym (length-map c.as-slice.result.now denom_view) ∙ ap length c.as-slice.ensures
+returns c = sym (length-map c.as_slice.result.now denom_view) ∙ ap length c.as_slice.ensures

@@ -8,4 +8,4 @@ use Rattle.tables.proofs.types.Denominations.number_of.Goals as goal
 pub returns : goal.returns
 returns c =
     let same = same_denom (denom_view c.args.denomination.now) in
-    c.find-in.ensures ∙ sym (number_map denom_view same c.as-slice.result.now) ∙ ap (number_of same) c.as-slice.ensures
+    c.find_in.ensures ∙ sym (number_map denom_view same c.as_slice.result.now) ∙ ap (number_of same) c.as_slice.ensures

@@ -4,8 +4,8 @@ use Rattle.tables.specs.View.{link_view}
 use Rattle.tables.proofs.Rows.{row_within, row_same, one_closed}
 use Rattle.tables.proofs.types.Links.close.Goals as goal
 
-pub offset-bounds-self-link : goal.offset-bounds-self-link
-offset-bounds-self-link c =
+pub offset_bounds-self-link : goal.offset_bounds-self-link
+offset_bounds-self-link c =
     let t = c.args.self.now in
     let low : c.args.link < 16 = omega (arith, (row_within link_view t.rows t.count c.args.link c.requires).0, t.few) in
     search rules
@@ -20,8 +20,8 @@ bounds-self-link c =
     let t = c.args.self.now in
     omega (arith, (row_within link_view t.rows t.count c.args.link c.requires).0, t.few)
 
-pub offset-bounds-self-link-2 : goal.offset-bounds-self-link-2
-offset-bounds-self-link-2 c =
+pub offset_bounds-self-link-2 : goal.offset_bounds-self-link-2
+offset_bounds-self-link-2 c =
     let t = c.args.self.now in
     let low : c.args.link < 16 = omega (arith, (row_within link_view t.rows t.count c.args.link c.requires).0, t.few) in
     search rules

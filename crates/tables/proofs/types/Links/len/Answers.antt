@@ -4,4 +4,4 @@ use Rattle.tables.specs.View.{link_view}
 use Rattle.tables.proofs.types.Links.len.Goals as goal
 
 pub returns : goal.returns
-returns c = sym (length-map c.as-slice.result.now link_view) ∙ ap length c.as-slice.ensures
+returns c = sym (length-map c.as_slice.result.now link_view) ∙ ap length c.as_slice.ensures

@@ -4,10 +4,10 @@ use Rattle.tables.proofs.Rows.{row_pushed, still_closed, length_rows}
 use Rattle.tables.proofs.types.Links.push.Goals as goal
 
 -- there is room for one more
-pub invariant-of-self : goal.invariant-of-self
-invariant-of-self c =
+pub invariant_of-self : goal.invariant_of-self
+invariant_of-self c =
     let links = c.args.self.now in
-    (omega (arith, c.requires.room, links.few, length_rows link_view links.rows links.count (omega (arith, links.few))), tt)
+    record { few = omega (arith, c.requires.room, links.few, length_rows link_view links.rows links.count (omega (arith, links.few))) }
 
 pub returns : goal.returns
 returns c =

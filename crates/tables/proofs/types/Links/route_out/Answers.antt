@@ -17,7 +17,7 @@ returns c =
     let ls = links_in t in
     let n = c.in-Some.lane in
     let out : number_of (same_end (end_at c.args.chain c.args.channel)) (ends ls) ≡ Some n =
-    ap (λ (l : List Link). number_of (same_end (end_at c.args.chain c.args.channel)) (ends l)) (sym c.as-slice.ensures) ∙ sym c.in-Some.ensures
+    ap (λ (l : List Link). number_of (same_end (end_at c.args.chain c.args.channel)) (ends l)) (sym c.as_slice.ensures) ∙ sym c.in-Some.ensures
     in
     go t n out c.route.result c.route.ensures
   where

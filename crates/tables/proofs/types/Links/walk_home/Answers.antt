@@ -8,19 +8,19 @@ use Rattle.tables.proofs.types.Links.walk_home.Goals as goal
 pub loop-hop-preserved : goal.loop-hop-preserved
 loop-hop-preserved c =
     let ls = links_in c.args.self.now in
-    let hops = c.as-slice-hops.result.now in
-    ap (home_by ls (drop (c.loop-hop.hop-index + 1) hops)) c.far-chain-here.ensures
+    let hops = c.as_slice-hops.result.now in
+    ap (home_by ls (drop (c.loop-hop.hop-index + 1) hops)) c.far_chain-here.ensures
     ∙ sym (walk_one ls hops c.loop-hop.here c.loop-hop.hop-index c.loop-hop-test.true)
     ∙ c.loop-hop.invariant
 
 pub returns : goal.returns
 returns c =
     let ls = links_in c.args.self.now in
-    let hops = c.as-slice-hops.result.now in
+    let hops = c.as_slice-hops.result.now in
     record {
       chain =
           sym (at_drop_all (λ (l : List ℕ). home_by ls l c.loop-hop.here) hops c.loop-hop.hop-index c.loop-hop-test.false)
           ∙ c.loop-hop.invariant
-          ∙ ap (λ (l : List ℕ). home_by ls l c.args.chain) c.as-slice-hops.ensures;
+          ∙ ap (λ (l : List ℕ). home_by ls l c.args.chain) c.as_slice-hops.ensures;
       symbol = refl;
     }

@@ -4,8 +4,8 @@ use Rattle.tables.specs.View.{packet_view}
 use Rattle.tables.proofs.Rows.{row_within, row_at}
 use Rattle.tables.proofs.types.Packets.at.Goals as goal
 
-pub offset-bounds-self-place : goal.offset-bounds-self-place
-offset-bounds-self-place c =
+pub offset_bounds-self-place : goal.offset_bounds-self-place
+offset_bounds-self-place c =
     let t = c.args.self.now in
     let low : c.args.place < 512 = omega (arith, (row_within packet_view t.rows t.count c.args.place c.requires).0, t.few) in
     search rules

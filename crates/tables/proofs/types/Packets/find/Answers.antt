@@ -8,4 +8,4 @@ use Rattle.tables.proofs.types.Packets.find.Goals as goal
 pub returns : goal.returns
 returns c =
     let test = is_packet c.args.lane c.args.sequence in
-    c.find-packet.ensures ∙ sym (number_map packet_view test c.as-slice.result.now) ∙ ap (number_of test) c.as-slice.ensures
+    c.find_packet.ensures ∙ sym (number_map packet_view test c.as_slice.result.now) ∙ ap (number_of test) c.as_slice.ensures

@@ -9,5 +9,5 @@ use Rattle.tables.proofs.types.Packets.lower_stands.Goals as goal
 pub returns : goal.returns
 returns c =
     let test = stands_below c.args.lane c.args.sequence in
-    let number = c.find-below.ensures ∙ sym (number_map packet_view test c.as-slice.result.now) ∙ ap (number_of test) c.as-slice.ensures in
-    c.is-some.ensures ∙ ap is_some number ∙ some_found test (packets_in c.args.self.now)
+    let number = c.find_below.ensures ∙ sym (number_map packet_view test c.as_slice.result.now) ∙ ap (number_of test) c.as_slice.ensures in
+    c.is_some.ensures ∙ ap is_some number ∙ some_found test (packets_in c.args.self.now)

@@ -13,10 +13,10 @@ bounds-self-at c =
     let t = c.args.self.now in
     omega (arith, c.requires, t.few, length_rows packet_view t.rows t.count (omega (arith, t.few)))
 
-pub invariant-of-self : goal.invariant-of-self
-invariant-of-self c =
+pub invariant_of-self : goal.invariant_of-self
+invariant_of-self c =
     let t = c.args.self.now in
-    (omega (arith, c.requires, t.few, length_rows packet_view t.rows t.count (omega (arith, t.few))), tt)
+    record { few = omega (arith, c.requires, t.few, length_rows packet_view t.rows t.count (omega (arith, t.few))) }
 
 pub returns : goal.returns
 returns c =

@@ -8,4 +8,4 @@ use Rattle.tables.proofs.types.Packets.sent_on.Goals as goal
 pub returns : goal.returns
 returns c =
     let test : Packet → Bool = λ p. eqb p.lane c.args.lane in
-    c.count-on.ensures ∙ sym (count_map packet_view test c.as-slice.result.now) ∙ ap (count test) c.as-slice.ensures
+    c.count_on.ensures ∙ sym (count_map packet_view test c.as_slice.result.now) ∙ ap (count test) c.as_slice.ensures

@@ -15,11 +15,11 @@ returns c =
     let chain = c.args.chain in
     let same = same_denom (denom_view c.args.denomination.now) in
     let within : chain < length rows = omega arith in
-    let found : c.number-of.result ≡ number_of same (denoms_of rows chain) =
-    c.number-of.ensures
+    let found : c.number_of.result ≡ number_of same (denoms_of rows chain) =
+    c.number_of.ensures
     ∙ ap (λ (r : Denominations). number_of same (denoms_in r)) (get_or_default rows chain c.index-self-chain.result no_denominations within)
     in
     record {
       number = found;
-      small = number_below same (denoms_of rows chain) 32 (few_denoms rows chain) c.number-of.result found;
+      small = number_below same (denoms_of rows chain) 32 (few_denoms rows chain) c.number_of.result found;
     }

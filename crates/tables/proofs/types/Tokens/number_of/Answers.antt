@@ -8,4 +8,4 @@ use Rattle.tables.proofs.types.Tokens.number_of.Goals as goal
 pub returns : goal.returns
 returns c =
     let same = same_token (token_view c.args.token.now) in
-    c.find-in.ensures ∙ sym (number_map token_view same c.as-slice.result.now) ∙ ap (number_of same) c.as-slice.ensures
+    c.find_in.ensures ∙ sym (number_map token_view same c.as_slice.result.now) ∙ ap (number_of same) c.as_slice.ensures
