@@ -7,10 +7,10 @@ use Rattle.commands.proofs.answers.write_answer.Goals as goal
 pub figure-requires : goal.figure-requires
 figure-requires c =
     let start = c.over-line.ensures in
-    omega (arith, start.at, ap length start.buffer, c.if-buffer-lt-MOST-ANSWER.false, length_figure_64 c.args.number c.ranges.number.fits)
+    omega (arith, start.at, ap length start.buffer, c.if-buffer-lt-MOST_ANSWER.false, length_figure_64 c.args.number c.ranges.number.fits)
 
-pub write-words-requires : goal.write-words-requires
-write-words-requires c =
+pub write_words-requires : goal.write_words-requires
+write_words-requires c =
     let start = c.over-line.ensures in
     omega (
       arith,
@@ -18,7 +18,7 @@ write-words-requires c =
       ap length start.buffer,
       c.figure.ensures.at,
       c.figure.ensures.room,
-      c.if-buffer-lt-MOST-ANSWER.false,
+      c.if-buffer-lt-MOST_ANSWER.false,
       length_figure_64 c.args.number c.ranges.number.fits,
     )
 
@@ -31,9 +31,9 @@ bytes-requires c =
       ap length start.buffer,
       c.figure.ensures.at,
       c.figure.ensures.room,
-      c.write-words.ensures.short,
-      c.write-words.ensures.room,
-      c.if-buffer-lt-MOST-ANSWER.false,
+      c.write_words.ensures.short,
+      c.write_words.ensures.room,
+      c.if-buffer-lt-MOST_ANSWER.false,
       length_figure_64 c.args.number c.ranges.number.fits,
     )
 
@@ -45,7 +45,7 @@ returns c =
     let P : List ℕ → Type 0 = λ l. Holds c.bytes.new.self.at c.bytes.new.self.buffer.now l before in
     let held : P (answer_line c.args.number (answer_of c.args.answer)) =
     subst P (append_assoc (figure c.args.number) words (10 ∷ []))
-    (c.bytes.ensures.holds _ before (c.write-words.ensures.holds _ before (c.figure.ensures.holds [] before (start.at, start.buffer))))
+    (c.bytes.ensures.holds _ before (c.write_words.ensures.holds _ before (c.figure.ensures.holds [] before (start.at, start.buffer))))
     in
     let filled : c.bytes.new.self.buffer.now ≡ over (answer_line c.args.number (answer_of c.args.answer)) before = held.1 in
     record { length = c.len.ensures ∙ held.0; buffer = search rules }

@@ -5,8 +5,8 @@ use Rattle.figures.proofs.Parts.{words_held}
 use Rattle.denom.specs.Views.{symbol_of}
 use Rattle.commands.proofs.answers.write_home.Goals as goal
 
-pub figure-word-requires : goal.figure-word-requires
-figure-word-requires c =
+pub figure_word-requires : goal.figure_word-requires
+figure_word-requires c =
     omega (arith, c.requires, c.word.ensures.at, c.word.ensures.room, length_figure_64 c.args.chain c.ranges.chain.fits)
 
 pub word-requires-2 : goal.word-requires-2
@@ -17,10 +17,10 @@ word-requires-2 c =
       c.requires,
       c.word.ensures.at,
       c.word.ensures.room,
-      c.figure-word.ensures.at,
-      c.figure-word.ensures.room,
+      c.figure_word.ensures.at,
+      c.figure_word.ensures.room,
       length_figure_64 c.args.chain c.ranges.chain.fits,
-      ap length c.as-slice.ensures,
+      ap length c.as_slice.ensures,
       length-take symbol.len symbol.bytes,
       symbol.few,
     )
@@ -29,7 +29,7 @@ pub returns : goal.returns
 returns c =
     let symbol = c.args.symbol.now in
     let ok = c.word.ensures in
-    let chain = c.figure-word.ensures in
+    let chain = c.figure_word.ensures in
     let told = c.word-2.ensures in
     record {
       room = told.room ∙ chain.room ∙ ok.room;
@@ -39,12 +39,12 @@ returns c =
         chain.at,
         ok.at,
         length_figure_64 c.args.chain c.ranges.chain.fits,
-        ap length c.as-slice.ensures,
+        ap length c.as_slice.ensures,
         length-take symbol.len symbol.bytes,
         symbol.few,
       );
       holds = λ xs before h.
           words_held _ _ xs (codes "ok" ∷ figure c.args.chain ∷ symbol_of symbol ∷ []) before
-          (rw (sym c.as-slice.ensures) (told.holds _ before (chain.holds _ before (ok.holds xs before h))));
+          (rw (sym c.as_slice.ensures) (told.holds _ before (chain.holds _ before (ok.holds xs before h))));
       lender = told.lender ∙ chain.lender ∙ ok.lender;
     }

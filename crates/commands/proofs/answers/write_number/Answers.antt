@@ -4,14 +4,14 @@ use Rattle.figures.proofs.Digits.{length_figure_64}
 use Rattle.figures.proofs.Parts.{words_held}
 use Rattle.commands.proofs.answers.write_number.Goals as goal
 
-pub figure-word-requires : goal.figure-word-requires
-figure-word-requires c =
+pub figure_word-requires : goal.figure_word-requires
+figure_word-requires c =
     omega (arith, c.requires, c.word.ensures.at, c.word.ensures.room, length_figure_64 c.args.n c.ranges.n.fits)
 
 pub returns : goal.returns
 returns c =
     let ok = c.word.ensures in
-    let told = c.figure-word.ensures in
+    let told = c.figure_word.ensures in
     record {
       room = told.room ∙ ok.room;
       short = omega (arith, told.at, ok.at, length_figure_64 c.args.n c.ranges.n.fits);

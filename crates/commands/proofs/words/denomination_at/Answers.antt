@@ -18,8 +18,8 @@ not_read (Some t) f is = let z : ◌≡◌ {A = ℕ} 0 1 = cc in absurd (omega a
 
 pub returns-in-Ok : goal.returns-in-Ok
 returns-in-Ok c =
-    read (denom_of c.word-at.result.now) (denom_view c.in-Ok.denomination) c.in-Ok.ensures ∙ ap (λ w. or_bad (denom_of w)) c.word-at.ensures
+    read (denom_of c.word_at.result.now) (denom_view c.in-Ok.denomination) c.in-Ok.ensures ∙ ap (λ w. or_bad (denom_of w)) c.word_at.ensures
 
 pub returns-in-Err : goal.returns-in-Err
 returns-in-Err c =
-    not_read (denom_of c.word-at.result.now) _ c.in-Err.ensures ∙ ap (λ w. or_bad (denom_of w)) c.word-at.ensures
+    not_read (denom_of c.word_at.result.now) _ c.in-Err.ensures ∙ ap (λ w. or_bad (denom_of w)) c.word_at.ensures
