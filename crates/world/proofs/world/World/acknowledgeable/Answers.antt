@@ -5,28 +5,28 @@ use Rattle.world.proofs.Looks.{mark_same, marked_same, strict_same, lower_same}
 use Rattle.world.proofs.Settlements.{ack_rest, ack_stopped, ack_known}
 use Rattle.world.proofs.world.World.acknowledgeable.Goals as goal
 
-pub returns-in-err-route : goal.returns-in-err-route
-returns-in-err-route g c =
+pub returns-in_err-route : goal.returns-in_err-route
+returns-in_err-route g c =
     let w = view g.L.Ledger.meaning g.F.Book.meaning g.S.Book.meaning c.args.self.now in
-    let p = err_from_is_err_and c.from-residual.result c.from-residual.ensures.1 in
-    rw (p.1, p.2) (c.in-err-route.ensures (ack_rest w c.args.link c.args.direction c.args.sequence))
+    let p = err_from_is_err_and c.from_residual.result c.from_residual.ensures.1 in
+    rw (p.1, p.2) (c.in_err-route.ensures (ack_rest w c.args.link c.args.direction c.args.sequence))
 
-pub returns-in-err-effect : goal.returns-in-err-effect
-returns-in-err-effect g c =
+pub returns-in_err-effect : goal.returns-in_err-effect
+returns-in_err-effect g c =
     let w = view g.L.Ledger.meaning g.F.Book.meaning g.S.Book.meaning c.args.self.now in
     let l = c.args.link in
     let d = c.args.direction in
     let s = c.args.sequence in
-    let q = c.in-ok-route.route in
-    let n = c.in-ok-route.place in
-    let p = c.in-ok-route.packet in
-    let on = c.in-ok-route.ensures in
-    let strict = strict_same w l d s q on.leads _ c.keeps-order.ensures in
-    let lower = lower_same w l d s q on.leads _ c.lower-stands.ensures in
+    let q = c.in_ok-route.route in
+    let n = c.in_ok-route.place in
+    let p = c.in_ok-route.packet in
+    let on = c.in_ok-route.ensures in
+    let strict = strict_same w l d s q on.leads _ c.keeps_order.ensures in
+    let lower = lower_same w l d s q on.leads _ c.lower_stands.ensures in
     let mark = marked_same w l d s q on.leads c.look-mark.result c.look-mark.ensures in
-    let r = err_from_is_err_and c.from-residual-in-err-effect.result c.from-residual-in-err-effect.ensures.1 in
+    let r = err_from_is_err_and c.from_residual-in_err-effect.result c.from_residual-in_err-effect.ensures.1 in
     rw (r.1, r.2)
-    (ack_stopped w l d s q n p on _ c.look-mark.result _ mark (λ i. strict i && lower i) c.in-err-effect.ensures)
+    (ack_stopped w l d s q n p on _ c.look-mark.result _ mark (λ i. strict i && lower i) c.in_err-effect.ensures)
 
 pub returns : goal.returns
 returns g c =
@@ -34,12 +34,12 @@ returns g c =
     let l = c.args.link in
     let d = c.args.direction in
     let s = c.args.sequence in
-    let q = c.in-ok-route.route in
-    let n = c.in-ok-route.place in
-    let p = c.in-ok-route.packet in
-    let on = c.in-ok-route.ensures in
-    let strict = strict_same w l d s q on.leads _ c.keeps-order.ensures in
-    let lower = lower_same w l d s q on.leads _ c.lower-stands.ensures in
+    let q = c.in_ok-route.route in
+    let n = c.in_ok-route.place in
+    let p = c.in_ok-route.packet in
+    let on = c.in_ok-route.ensures in
+    let strict = strict_same w l d s q on.leads _ c.keeps_order.ensures in
+    let lower = lower_same w l d s q on.leads _ c.lower_stands.ensures in
     let mark = marked_same w l d s q on.leads c.look-mark.result c.look-mark.ensures in
     let is = mark_same w l d s q on.leads c.look-mark.result c.look-mark.ensures in
-    ack_known w l d s q n p on _ c.look-mark.result _ is mark (λ i. strict i && lower i) c.in-ok-effect.ensures
+    ack_known w l d s q n p on _ c.look-mark.result _ is mark (λ i. strict i && lower i) c.in_ok-effect.ensures

@@ -15,10 +15,10 @@ returns-in-Ok g c =
     let told = c.in-Ok.ensures in
     let known = sym c.in-Some.ensures.number in
     record {
-      answer = home_good w f p _ c.in-Some.number _ c.escrow-account.ensures c.stripped-freed.ensures known (free_from_ok _ tt tt (sym told.answer));
+      answer = home_good w f p _ c.in-Some.number _ c.escrow_account.ensures c.stripped-freed.ensures known (free_from_ok _ tt tt (sym told.answer));
       after =
           (λ i. with_ledger w (told.after i))
-          ∙ home_left w f p _ c.in-Some.number _ c.escrow-account.ensures c.stripped-freed.ensures known;
+          ∙ home_left w f p _ c.in-Some.number _ c.escrow_account.ensures c.stripped-freed.ensures known;
     }
 
 pub returns-in-Err : goal.returns-in-Err
@@ -29,6 +29,6 @@ returns-in-Err g c =
     let told = c.in-Err.ensures in
     let known = sym c.in-Some.ensures.number in
     record {
-      answer = home_refused w f p _ c.in-Some.number _ c.escrow-account.ensures c.stripped-freed.ensures known _ (refused_from_err _ tt _ (sym told.answer));
+      answer = home_refused w f p _ c.in-Some.number _ c.escrow_account.ensures c.stripped-freed.ensures known _ (refused_from_err _ tt _ (sym told.answer));
       after = λ i. with_ledger w (told.after i);
     }

@@ -9,19 +9,19 @@ use Rattle.world.proofs.Deliveries.{voucher_too_long, voucher_full, voucher_good
 use Rattle.world.proofs.Verdicts.{refused_from_err}
 use Rattle.world.proofs.world.World.deliver_voucher.Goals as goal
 
-pub returns-in-default : goal.returns-in-default
-returns-in-default g c =
+pub returns-in_default : goal.returns-in_default
+returns-in_default g c =
     let w = view g.L.Ledger.meaning g.F.Book.meaning g.S.Book.meaning c.args.self.now in
     record {
-      answer = voucher_too_long w (end_view c.args.far) (packet_view c.args.packet.now) _ c.in-default.ensures (lt-leb 8 c.args.far.channel c.args.far.channels);
+      answer = voucher_too_long w (end_view c.args.far) (packet_view c.args.packet.now) _ c.in_default.ensures (lt-leb 8 c.args.far.channel c.args.far.channels);
       after = refl;
     }
 
-pub returns-in-default-number-for : goal.returns-in-default-number-for
-returns-in-default-number-for g c =
+pub returns-in_default-number_for : goal.returns-in_default-number_for
+returns-in_default-number_for g c =
     let w = view g.L.Ledger.meaning g.F.Book.meaning g.S.Book.meaning c.args.self.now in
     record {
-      answer = voucher_full w (end_view c.args.far) (packet_view c.args.packet.now) _ c.in-Some.ensures c.in-default-number-for.ensures;
+      answer = voucher_full w (end_view c.args.far) (packet_view c.args.packet.now) _ c.in-Some.ensures c.in_default-number_for.ensures;
       after = refl;
     }
 
@@ -32,13 +32,13 @@ returns-in-Ok g c =
     let p = packet_view c.args.packet.now in
     let told = c.in-Ok.ensures in
     let made = c.in-Some.ensures in
-    let known = c.in-Some-number-for.ensures in
+    let known = c.in-Some-number_for.ensures in
     record {
-      answer = voucher_good w f p c.in-Some-number-for.number _ made known (free_from_ok _ tt tt (sym told.answer));
+      answer = voucher_good w f p c.in-Some-number_for.number _ made known (free_from_ok _ tt tt (sym told.answer));
       after =
           c.enrol.ensures
           ∙ (λ i. enrolled (with_ledger w (told.after i)) c.args.far.chain (denom_view c.in-Some.voucher))
-          ∙ voucher_left w f p c.in-Some-number-for.number _ made known;
+          ∙ voucher_left w f p c.in-Some-number_for.number _ made known;
     }
 
 pub returns-in-Err : goal.returns-in-Err
@@ -48,8 +48,8 @@ returns-in-Err g c =
     let p = packet_view c.args.packet.now in
     let told = c.in-Err.ensures in
     let made = c.in-Some.ensures in
-    let known = c.in-Some-number-for.ensures in
+    let known = c.in-Some-number_for.ensures in
     record {
-      answer = voucher_refused w f p c.in-Some-number-for.number _ made known _ (refused_from_err _ tt _ (sym told.answer));
+      answer = voucher_refused w f p c.in-Some-number_for.number _ made known _ (refused_from_err _ tt _ (sym told.answer));
       after = λ i. with_ledger w (told.after i);
     }

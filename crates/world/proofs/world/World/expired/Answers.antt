@@ -5,28 +5,28 @@ use Rattle.world.proofs.Looks.{marked_same, height_passed}
 use Rattle.world.proofs.Settlements.{timeout_rest, timeout_stopped, timeout_expired}
 use Rattle.world.proofs.world.World.expired.Goals as goal
 
-pub returns-in-err-route : goal.returns-in-err-route
-returns-in-err-route g c =
+pub returns-in_err-route : goal.returns-in_err-route
+returns-in_err-route g c =
     let w = view g.L.Ledger.meaning g.F.Book.meaning g.S.Book.meaning c.args.self.now in
-    let p = err_from_is_err_and c.from-residual.result c.from-residual.ensures.1 in
-    rw (p.1, p.2) (c.in-err-route.ensures (timeout_rest w c.args.link c.args.direction c.args.sequence))
+    let p = err_from_is_err_and c.from_residual.result c.from_residual.ensures.1 in
+    rw (p.1, p.2) (c.in_err-route.ensures (timeout_rest w c.args.link c.args.direction c.args.sequence))
 
-pub returns-in-err-step : goal.returns-in-err-step
-returns-in-err-step g c =
+pub returns-in_err-step : goal.returns-in_err-step
+returns-in_err-step g c =
     let w = view g.L.Ledger.meaning g.F.Book.meaning g.S.Book.meaning c.args.self.now in
     let l = c.args.link in
     let d = c.args.direction in
     let s = c.args.sequence in
-    let q = c.in-ok-route.route in
-    let n = c.in-ok-route.place in
-    let p = c.in-ok-route.packet in
-    let on = c.in-ok-route.ensures in
+    let q = c.in_ok-route.route in
+    let n = c.in_ok-route.place in
+    let p = c.in_ok-route.packet in
+    let on = c.in_ok-route.ensures in
     let closed = sym on.leads.closed_is in
-    let late = height_passed w l d s q on.leads p.timeout _ c.has-passed.ensures in
+    let late = height_passed w l d s q on.leads p.timeout _ c.has_passed.ensures in
     let mark = marked_same w l d s q on.leads c.look-mark.result c.look-mark.ensures in
-    let r = err_from_is_err_and c.from-residual-in-err-step.result c.from-residual-in-err-step.ensures.1 in
+    let r = err_from_is_err_and c.from_residual-in_err-step.result c.from_residual-in_err-step.ensures.1 in
     rw (r.1, r.2)
-    (timeout_stopped w l d s q n p on _ c.look-mark.result _ mark (λ i. closed i || late i) c.in-err-step.ensures)
+    (timeout_stopped w l d s q n p on _ c.look-mark.result _ mark (λ i. closed i || late i) c.in_err-step.ensures)
 
 pub returns : goal.returns
 returns g c =
@@ -34,11 +34,11 @@ returns g c =
     let l = c.args.link in
     let d = c.args.direction in
     let s = c.args.sequence in
-    let q = c.in-ok-route.route in
-    let n = c.in-ok-route.place in
-    let p = c.in-ok-route.packet in
-    let on = c.in-ok-route.ensures in
+    let q = c.in_ok-route.route in
+    let n = c.in_ok-route.place in
+    let p = c.in_ok-route.packet in
+    let on = c.in_ok-route.ensures in
     let closed = sym on.leads.closed_is in
-    let late = height_passed w l d s q on.leads p.timeout _ c.has-passed.ensures in
+    let late = height_passed w l d s q on.leads p.timeout _ c.has_passed.ensures in
     let mark = marked_same w l d s q on.leads c.look-mark.result c.look-mark.ensures in
-    timeout_expired w l d s q n p on _ c.look-mark.result _ mark (λ i. closed i || late i) c.in-ok-step.ensures
+    timeout_expired w l d s q n p on _ c.look-mark.result _ mark (λ i. closed i || late i) c.in_ok-step.ensures

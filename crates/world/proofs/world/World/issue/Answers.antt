@@ -49,17 +49,17 @@ returns-then-amount-eq0 g c =
     let no = stopped w (issue c.args.chain c.args.user s c.args.amount) 13 (issue_nothing w c.args.chain c.args.user s c.args.amount c.args.symbol.spelt (sym c.if-not-serves.ensures) (lt-leb 16 c.args.user c.if-user-ge-USERS.false) (eq-eqb c.args.amount 0 c.if-amount-eq0.true)) in
     record { answer = no.0; after = no.1 }
 
-pub returns-in-default : goal.returns-in-default
-returns-in-default g c =
+pub returns-in_default : goal.returns-in_default
+returns-in_default g c =
     let w = view g.L.Ledger.meaning g.F.Book.meaning g.S.Book.meaning c.args.self.now in
     let s = symbol_of c.args.symbol in
     let plain : denom_view c.hopless-denomination.result ≡ hopless s = c.hopless-denomination.ensures in
-    let full-one = ap (full w c.args.chain s) (sym plain) ∙ absent_if _ _ c.in-default.ensures.number in
+    let full-one = ap (full w c.args.chain s) (sym plain) ∙ absent_if _ _ c.in_default.ensures.number in
     let no = stopped w (issue c.args.chain c.args.user s c.args.amount) 23 (issue_full w c.args.chain c.args.user s c.args.amount c.args.symbol.spelt (sym c.if-not-serves.ensures) (lt-leb 16 c.args.user c.if-user-ge-USERS.false) (ne_eqb c.args.amount 0 c.if-amount-eq0.false) full-one) in
     record { answer = no.0; after = no.1 }
 
-pub returns-in-err-credit : goal.returns-in-err-credit
-returns-in-err-credit g c =
+pub returns-in_err-credit : goal.returns-in_err-credit
+returns-in_err-credit g c =
     let w = view g.L.Ledger.meaning g.F.Book.meaning g.S.Book.meaning c.args.self.now in
     let chain = c.args.chain in
     let s = symbol_of c.args.symbol in
@@ -68,9 +68,9 @@ returns-in-err-credit g c =
     let told = there_if _ _ _ c.in-Some.ensures.number in
     let numbered : number w chain (hopless s) ≡ c.in-Some.number = sym (told.1 ∙ ap (number w chain) plain) in
     let room : full w chain s (hopless s) ≡ false = ap (full w chain s) (sym plain) ∙ told.0 in
-    let credit = c.in-err-credit.ensures in
-    let n = ledger_number c.in-err-credit.field-0.0 in
-    let p = err_from_is_err_and c.from-residual.result c.from-residual.ensures.1 in
+    let credit = c.in_err-credit.ensures in
+    let n = ledger_number c.in_err-credit.field-0.0 in
+    let p = err_from_is_err_and c.from_residual.result c.from_residual.ensures.1 in
     let by : first (refusals w k) ≡ Some n =
     issue_left w chain c.args.user s c.args.amount c.in-Some.number c.args.symbol.spelt (sym c.if-not-serves.ensures) c.if-user-ge-USERS.false (ne_eqb c.args.amount 0 c.if-amount-eq0.false) room numbered c.in-Some.ensures.small
     ∙ refused_from_err _ tt n (sym credit.answer)
@@ -81,8 +81,8 @@ returns-in-err-credit g c =
       after = ap (with_ledger w) credit.after ∙ no.1;
     }
 
-pub enrol-token-requires : goal.enrol-token-requires
-enrol-token-requires g c =
+pub enrol_token-requires : goal.enrol_token-requires
+enrol_token-requires g c =
     let told = there_if _ _ _ c.in-Some.ensures.number in
     let tokens : List Token = tokens_in c.args.self.now.tables.tokens in
     let same : tokens_in c.enrol.new.self.tables.tokens ≡ tokens = ap (λ (x : World). x.tokens) c.enrol.ensures in
@@ -103,7 +103,7 @@ returns g c =
     let k = issue chain user s n in
     let plain : denom_view c.hopless-denomination.result ≡ hopless s = c.hopless-denomination.ensures in
     let told = there_if _ _ _ c.in-Some.ensures.number in
-    let credit = c.in-ok-credit.ensures in
+    let credit = c.in_ok-credit.ensures in
     let numbered : c.in-Some.number ≡ number w chain (hopless s) = told.1 ∙ ap (number w chain) plain in
     let room : full w chain s (hopless s) ≡ false = ap (full w chain s) (sym plain) ∙ told.0 in
     let by : first (refusals w k) ≡ None =
@@ -115,7 +115,7 @@ returns g c =
     record {
       answer = sym (ap (λ p. p.1) step_is);
       after =
-          c.enrol-token.ensures
+          c.enrol_token.ensures
           ∙ ap (λ (x : World). token_enrolled x (token_at chain s)) (c.enrol.ensures ∙ ap (λ l. enrolled (with_ledger w l) chain (denom_view c.hopless-denomination.result)) credit.after)
           ∙ (λ i. F (numbered i) (plain i))
           ∙ sym (ap (λ p. p.0) step_is);

@@ -20,11 +20,11 @@ pub returns-then-near-ge-CHANNELS : goal.returns-then-near-ge-CHANNELS
 returns-then-near-ge-CHANNELS g c =
     let w = view g.L.Ledger.meaning g.F.Book.meaning g.S.Book.meaning c.args.self.now in
     let k = open_link c.args.first c.args.second (is_strict c.args.kind) in
-    let near : c.lowest-unused-near.result ≡ lowest_unused w.links c.args.first =
-    c.lowest-unused-near.ensures ∙ ap (λ l. lowest_unused l c.args.first) c.as-slice.ensures
+    let near : c.lowest_unused-near.result ≡ lowest_unused w.links c.args.first =
+    c.lowest_unused-near.ensures ∙ ap (λ l. lowest_unused l c.args.first) c.as_slice.ensures
     in
-    let far : c.lowest-unused-far.result ≡ lowest_unused w.links c.args.second =
-    c.lowest-unused-far.ensures ∙ ap (λ l. lowest_unused l c.args.second) c.as-slice-2.ensures
+    let far : c.lowest_unused-far.result ≡ lowest_unused w.links c.args.second =
+    c.lowest_unused-far.ensures ∙ ap (λ l. lowest_unused l c.args.second) c.as_slice-2.ensures
     in
     let by : first (refusals w k) ≡ Some 9 = grind (arith, nat_tests) in
     let s = refused_by w k 9 by in
@@ -34,11 +34,11 @@ pub returns : goal.returns
 returns g c =
     let w = view g.L.Ledger.meaning g.F.Book.meaning g.S.Book.meaning c.args.self.now in
     let k = open_link c.args.first c.args.second (is_strict c.args.kind) in
-    let near : c.lowest-unused-near.result ≡ lowest_unused w.links c.args.first =
-    c.lowest-unused-near.ensures ∙ ap (λ l. lowest_unused l c.args.first) c.as-slice.ensures
+    let near : c.lowest_unused-near.result ≡ lowest_unused w.links c.args.first =
+    c.lowest_unused-near.ensures ∙ ap (λ l. lowest_unused l c.args.first) c.as_slice.ensures
     in
-    let far : c.lowest-unused-far.result ≡ lowest_unused w.links c.args.second =
-    c.lowest-unused-far.ensures ∙ ap (λ l. lowest_unused l c.args.second) c.as-slice-2.ensures
+    let far : c.lowest_unused-far.result ≡ lowest_unused w.links c.args.second =
+    c.lowest_unused-far.ensures ∙ ap (λ l. lowest_unused l c.args.second) c.as_slice-2.ensures
     in
     let by : first (refusals w k) ≡ None = grind (arith, nat_tests) in
     let s = accepted w k by in

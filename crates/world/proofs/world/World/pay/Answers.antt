@@ -26,11 +26,11 @@ returns-then-amount-eq0 g c =
     let no = stopped w (pay c.args.chain c.args.user c.args.payee e c.args.amount) 13 (pay_nothing w c.args.chain c.args.user c.args.payee e c.args.amount (sym c.if-not-serves.ensures) (lt-leb 16 c.args.user c.if-user-ge-USERS.false) (lt-leb 16 c.args.payee c.if-payee-ge-USERS.false) (eq-eqb c.args.amount 0 c.if-amount-eq0.true)) in
     record { answer = no.0; after = no.1 }
 
-pub returns-in-default : goal.returns-in-default
-returns-in-default g c =
+pub returns-in_default : goal.returns-in_default
+returns-in_default g c =
     let w = view g.L.Ledger.meaning g.F.Book.meaning g.S.Book.meaning c.args.self.now in
     let e = denom_view c.args.denomination.now in
-    let no = stopped w (pay c.args.chain c.args.user c.args.payee e c.args.amount) 14 (pay_unknown w c.args.chain c.args.user c.args.payee e c.args.amount (sym c.if-not-serves.ensures) (lt-leb 16 c.args.user c.if-user-ge-USERS.false) (lt-leb 16 c.args.payee c.if-payee-ge-USERS.false) (ne_eqb c.args.amount 0 c.if-amount-eq0.false) (none_found (same_denom e) (w.register c.args.chain) c.in-default.ensures.number)) in
+    let no = stopped w (pay c.args.chain c.args.user c.args.payee e c.args.amount) 14 (pay_unknown w c.args.chain c.args.user c.args.payee e c.args.amount (sym c.if-not-serves.ensures) (lt-leb 16 c.args.user c.if-user-ge-USERS.false) (lt-leb 16 c.args.payee c.if-payee-ge-USERS.false) (ne_eqb c.args.amount 0 c.if-amount-eq0.false) (none_found (same_denom e) (w.register c.args.chain) c.in_default.ensures.number)) in
     record { answer = no.0; after = no.1 }
 
 pub returns : goal.returns

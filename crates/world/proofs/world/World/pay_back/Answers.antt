@@ -11,6 +11,6 @@ returns g c =
     let p = packet_view c.args.packet.now in
     let known = sym c.in-Some.ensures.number in
     record {
-      answer = back_refused w n p c.in-Some.number known c.give-back.result c.give-back.ensures.answer;
-      after = back_left w n p c.in-Some.number known c.give-back.result _ c.give-back.ensures.after;
+      answer = back_refused w n p c.in-Some.number known c.give_back.result c.give_back.ensures.answer;
+      after = back_left w n p c.in-Some.number known c.give_back.result _ c.give_back.ensures.after;
     }

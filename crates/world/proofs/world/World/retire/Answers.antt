@@ -33,18 +33,18 @@ returns-then-amount-eq0 g c =
     let no = stopped w (retire c.args.chain c.args.user e c.args.amount) 13 (retire_nothing w c.args.chain c.args.user e c.args.amount (sym c.if-not-serves.ensures) (lt-leb 16 c.args.user c.if-user-ge-USERS.false) (eq-eqb c.args.amount 0 c.if-amount-eq0.true)) in
     record { answer = no.0; after = no.1 }
 
-pub returns-in-default : goal.returns-in-default
-returns-in-default g c =
+pub returns-in_default : goal.returns-in_default
+returns-in_default g c =
     let w = view g.L.Ledger.meaning g.F.Book.meaning g.S.Book.meaning c.args.self.now in
     let e = denom_view c.args.denomination.now in
-    let no = stopped w (retire c.args.chain c.args.user e c.args.amount) 14 (retire_unknown w c.args.chain c.args.user e c.args.amount (sym c.if-not-serves.ensures) (lt-leb 16 c.args.user c.if-user-ge-USERS.false) (ne_eqb c.args.amount 0 c.if-amount-eq0.false) (none_found (same_denom e) (w.register c.args.chain) c.in-default.ensures.number)) in
+    let no = stopped w (retire c.args.chain c.args.user e c.args.amount) 14 (retire_unknown w c.args.chain c.args.user e c.args.amount (sym c.if-not-serves.ensures) (lt-leb 16 c.args.user c.if-user-ge-USERS.false) (ne_eqb c.args.amount 0 c.if-amount-eq0.false) (none_found (same_denom e) (w.register c.args.chain) c.in_default.ensures.number)) in
     record { answer = no.0; after = no.1 }
 
-pub returns-then-not-is-hopless : goal.returns-then-not-is-hopless
-returns-then-not-is-hopless g c =
+pub returns-then-not-is_hopless : goal.returns-then-not-is_hopless
+returns-then-not-is_hopless g c =
     let w = view g.L.Ledger.meaning g.F.Book.meaning g.S.Book.meaning c.args.self.now in
     let e = denom_view c.args.denomination.now in
-    let no = stopped w (retire c.args.chain c.args.user e c.args.amount) 15 (retire_voucher w c.args.chain c.args.user e c.args.amount (sym c.if-not-serves.ensures) (lt-leb 16 c.args.user c.if-user-ge-USERS.false) (ne_eqb c.args.amount 0 c.if-amount-eq0.false) (number_some (same_denom e) (w.register c.args.chain) c.in-Some.number (sym c.in-Some.ensures.number)).0 (sym c.if-not-is-hopless.ensures)) in
+    let no = stopped w (retire c.args.chain c.args.user e c.args.amount) 15 (retire_voucher w c.args.chain c.args.user e c.args.amount (sym c.if-not-serves.ensures) (lt-leb 16 c.args.user c.if-user-ge-USERS.false) (ne_eqb c.args.amount 0 c.if-amount-eq0.false) (number_some (same_denom e) (w.register c.args.chain) c.in-Some.number (sym c.in-Some.ensures.number)).0 (sym c.if-not-is_hopless.ensures)) in
     record { answer = no.0; after = no.1 }
 
 pub returns : goal.returns
@@ -57,7 +57,7 @@ returns g c =
     let new = λ (m : ℕ). with_balances w.ledger (debited w.ledger.balance c.args.chain c.args.user m c.args.amount) in
     let s =
     ended_by_ledger w (retire c.args.chain c.args.user e c.args.amount) (new d) _ _ c.debit.result c.climbed.result
-    (retire_left w c.args.chain c.args.user d c.args.amount e (sym c.if-not-serves.ensures) c.if-user-ge-USERS.false (ne_eqb c.args.amount 0 c.if-amount-eq0.false) known.0 known.1 c.in-Some.ensures.small (sym c.if-not-is-hopless.ensures))
+    (retire_left w c.args.chain c.args.user d c.args.amount e (sym c.if-not-serves.ensures) c.if-user-ge-USERS.false (ne_eqb c.args.amount 0 c.if-amount-eq0.false) known.0 known.1 c.in-Some.ensures.small (sym c.if-not-is_hopless.ensures))
     (ap (λ (m : ℕ). (with_ledger w (new m), done)) known.1) told.answer told.after c.climbed.ensures
     in
     record { answer = s.0; after = s.1 }

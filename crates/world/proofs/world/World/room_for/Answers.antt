@@ -13,8 +13,8 @@ returns-in-Some g c =
     let tables = c.args.self.now.tables in
     let known = found_some (same_token t) (tokens_in tables.tokens) _ c.in-Some.ensures in
     record {
-      number = c.number-for-number.ensures ∙ sym (rw known refl);
-      small = number_for_small (denom_view c.args.denomination.now) (denoms_of tables.denominations t.chain) (few_denoms tables.denominations t.chain) c.number-for-number.result c.number-for-number.ensures;
+      number = c.number_for-number.ensures ∙ sym (rw known refl);
+      small = number_for_small (denom_view c.args.denomination.now) (denoms_of tables.denominations t.chain) (few_denoms tables.denominations t.chain) c.number_for-number.result c.number_for-number.ensures;
     }
 
 pub returns-else-len-ge-TOKENS : goal.returns-else-len-ge-TOKENS
@@ -24,6 +24,6 @@ returns-else-len-ge-TOKENS g c =
     let known = found_some (same_token t) (tokens_in tables.tokens) _ c.in-None.ensures in
     let room : leb 64 (length (tokens_in tables.tokens)) ≡ false = lt-leb 64 (length (tokens_in tables.tokens)) (omega (arith, c.len.ensures, c.if-len-ge-TOKENS.false)) in
     record {
-      number = c.number-for-number.ensures ∙ sym (rw (known, room) refl);
-      small = number_for_small (denom_view c.args.denomination.now) (denoms_of tables.denominations t.chain) (few_denoms tables.denominations t.chain) c.number-for-number.result c.number-for-number.ensures;
+      number = c.number_for-number.ensures ∙ sym (rw (known, room) refl);
+      small = number_for_small (denom_view c.args.denomination.now) (denoms_of tables.denominations t.chain) (few_denoms tables.denominations t.chain) c.number_for-number.result c.number_for-number.ensures;
     }

@@ -49,28 +49,28 @@ sequence-low :
 sequence-low w c k u v e n t r d q ps sent same is =
     omega (arith, is, count_le (λ (p : Packet). eqb p.lane r.lane) ps, ap length same, q.room)
 
-pub returns-in-err-route : goal.returns-in-err-route
-returns-in-err-route g c =
+pub returns-in_err-route : goal.returns-in_err-route
+returns-in_err-route g c =
     let w = view g.L.Ledger.meaning g.F.Book.meaning g.S.Book.meaning c.args.self.now in
-    let n = world_number c.in-err-route.field-0.0 in
-    let r = err_from_is_err_and c.from-residual.result c.from-residual.ensures.1 in
-    let stop = stopped w (send c.args.chain c.args.channel c.args.sender c.args.receiver (denom_view c.args.denomination.now) c.args.amount c.args.timeout) n c.in-err-route.ensures in
+    let n = world_number c.in_err-route.field-0.0 in
+    let r = err_from_is_err_and c.from_residual.result c.from_residual.ensures.1 in
+    let stop = stopped w (send c.args.chain c.args.channel c.args.sender c.args.receiver (denom_view c.args.denomination.now) c.args.amount c.args.timeout) n c.in_err-route.ensures in
     record {
       answer = ap (said says world_number) r.1 ∙ ap (λ (f : WorldFault). no (world_number f)) r.2 ∙ stop.0;
       after = stop.1;
     }
 
-pub returns-in-err-send-off : goal.returns-in-err-send-off
-returns-in-err-send-off g c =
+pub returns-in_err-send_off : goal.returns-in_err-send_off
+returns-in_err-send_off g c =
     let w = view g.L.Ledger.meaning g.F.Book.meaning g.S.Book.meaning c.args.self.now in
     let e = denom_view c.args.denomination.now in
     let k = send c.args.chain c.args.channel c.args.sender c.args.receiver e c.args.amount c.args.timeout in
-    let q = c.in-ok-route.ensures in
-    let told = c.in-err-send-off.ensures in
-    let p = err_from_is_err_and c.from-residual-in-err-send-off.result c.from-residual-in-err-send-off.ensures.1 in
-    let n = ledger_number c.in-err-send-off.field-0.0 in
+    let q = c.in_ok-route.ensures in
+    let told = c.in_err-send_off.ensures in
+    let p = err_from_is_err_and c.from_residual-in_err-send_off.result c.from_residual-in_err-send_off.ensures.1 in
+    let n = ledger_number c.in_err-send_off.field-0.0 in
     let by : first (refusals w k) ≡ Some n =
-    at-ledger w c.args.chain c.args.channel c.args.sender c.args.receiver e c.args.amount c.args.timeout c.in-ok-route.route c.in-ok-route.number q
+    at-ledger w c.args.chain c.args.channel c.args.sender c.args.receiver e c.args.amount c.args.timeout c.in_ok-route.route c.in_ok-route.number q
     ∙ refused_from_err _ tt n (sym told.answer)
     in
     let s = refused_by w k n by in
@@ -82,45 +82,45 @@ returns-in-err-send-off g c =
       after = told.after ∙ sym (ap (λ p. p.0) s);
     }
 
-pub overflow-add-sequence : goal.overflow-add-sequence
-overflow-add-sequence g c =
+pub overflow_add-sequence : goal.overflow_add-sequence
+overflow_add-sequence g c =
     let w = view g.L.Ledger.meaning g.F.Book.meaning g.S.Book.meaning c.args.self.now in
     let e = denom_view c.args.denomination.now in
-    let q = c.in-ok-route.ensures in
-    let off = c.in-ok-send-off.ensures.after in
-    let low : c.sent-on-sequence.result < 512 =
-    sequence-low w c.args.chain c.args.channel c.args.sender c.args.receiver e c.args.amount c.args.timeout c.in-ok-route.route c.in-ok-route.number q _ _ (ap (λ (v : World). v.packets) off) c.sent-on-sequence.ensures
+    let q = c.in_ok-route.ensures in
+    let off = c.in_ok-send_off.ensures.after in
+    let low : c.sent_on-sequence.result < 512 =
+    sequence-low w c.args.chain c.args.channel c.args.sender c.args.receiver e c.args.amount c.args.timeout c.in_ok-route.route c.in_ok-route.number q _ _ (ap (λ (v : World). v.packets) off) c.sent_on-sequence.ensures
     in
     search rules
 
-pub invariant-of-push : goal.invariant-of-push
-invariant-of-push g c =
+pub invariant_of-push : goal.invariant_of-push
+invariant_of-push g c =
     let w = view g.L.Ledger.meaning g.F.Book.meaning g.S.Book.meaning c.args.self.now in
     let e = denom_view c.args.denomination.now in
-    let q = c.in-ok-route.ensures in
-    let off = c.in-ok-send-off.ensures.after in
-    let low : c.sent-on-sequence.result < 512 =
-    sequence-low w c.args.chain c.args.channel c.args.sender c.args.receiver e c.args.amount c.args.timeout c.in-ok-route.route c.in-ok-route.number q _ _ (ap (λ (v : World). v.packets) off) c.sent-on-sequence.ensures
+    let q = c.in_ok-route.ensures in
+    let off = c.in_ok-send_off.ensures.after in
+    let low : c.sent_on-sequence.result < 512 =
+    sequence-low w c.args.chain c.args.channel c.args.sender c.args.receiver e c.args.amount c.args.timeout c.in_ok-route.route c.in_ok-route.number q _ _ (ap (λ (v : World). v.packets) off) c.sent_on-sequence.ensures
     in
-    (omega arith, (omega arith, tt))
+    record { first = omega arith; last = omega arith }
 
 pub returns : goal.returns
 returns g c =
     let w = view g.L.Ledger.meaning g.F.Book.meaning g.S.Book.meaning c.args.self.now in
     let e = denom_view c.args.denomination.now in
     let k = send c.args.chain c.args.channel c.args.sender c.args.receiver e c.args.amount c.args.timeout in
-    let q = c.in-ok-route.ensures in
-    let left = view g.L.Ledger.meaning g.F.Book.meaning g.S.Book.meaning c.send-off.new.self in
-    let told = c.in-ok-send-off.ensures in
+    let q = c.in_ok-route.ensures in
+    let left = view g.L.Ledger.meaning g.F.Book.meaning g.S.Book.meaning c.send_off.new.self in
+    let told = c.in_ok-send_off.ensures in
     let off : left ≡ with_bal w (sent_off w c.args.chain c.args.channel c.args.sender e c.args.amount) =
     told.after
-    ∙ by_number w c.args.chain c.args.channel c.args.sender c.args.receiver e c.args.amount c.args.timeout c.in-ok-route.route c.in-ok-route.number q
+    ∙ by_number w c.args.chain c.args.channel c.args.sender c.args.receiver e c.args.amount c.args.timeout c.in_ok-route.route c.in_ok-route.number q
     in
     let seq =
-    sequence-is w c.args.chain c.args.channel c.args.sender c.args.receiver e c.args.amount c.args.timeout c.in-ok-route.route c.in-ok-route.number q left.packets c.sent-on-sequence.result (ap (λ (v : World). v.packets) off) c.sent-on-sequence.ensures
+    sequence-is w c.args.chain c.args.channel c.args.sender c.args.receiver e c.args.amount c.args.timeout c.in_ok-route.route c.in_ok-route.number q left.packets c.sent_on-sequence.result (ap (λ (v : World). v.packets) off) c.sent_on-sequence.ensures
     in
     let by : first (refusals w k) ≡ None =
-    at-ledger w c.args.chain c.args.channel c.args.sender c.args.receiver e c.args.amount c.args.timeout c.in-ok-route.route c.in-ok-route.number q
+    at-ledger w c.args.chain c.args.channel c.args.sender c.args.receiver e c.args.amount c.args.timeout c.in_ok-route.route c.in_ok-route.number q
     ∙ free_from_ok _ tt tt (sym told.answer)
     in
     let s = accepted w k by in

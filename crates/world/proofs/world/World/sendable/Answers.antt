@@ -19,10 +19,10 @@ returns g c =
     let chain : served w c.args.chain ≡ true = sym c.if-not-serves.ensures in
     let user : (leb 16 c.args.sender || leb 16 c.args.receiver) ≡ false = grind (arith, nat_tests) in
     let some : eqb c.args.amount 0 ≡ false = grind (arith, nat_tests) in
-    let known = number_some (same_denom e) (w.register c.args.chain) c.in-Some-number-of.number (sym c.in-Some-number-of.ensures.number) in
+    let known = number_some (same_denom e) (w.register c.args.chain) c.in-Some-number_of.number (sym c.in-Some-number_of.ensures.number) in
     let alive : w.closed (lane / 2) ≡ false = sym out.closed_is ∙ c.if-route.false in
     let early : passed w lane t ≡ false =
-    ap (λ (f : End). not (eqb t 0) && leb t (w.height f.chain)) (sym out.far) ∙ sym c.if-has-passed.ensures
+    ap (λ (f : End). not (eqb t 0) && leb t (w.height f.chain)) (sym out.far) ∙ sym c.if-has_passed.ensures
     in
     let few = c.len.ensures in
     let room : leb 512 (length w.packets) ≡ false = grind (arith, nat_tests) in
@@ -34,6 +34,6 @@ returns g c =
       channel = omega (arith, ap (λ (f : End). f.channel) out.near, c.in-Some.route.near.channels);
       sender = omega arith;
       amount = some;
-      low = c.in-Some-number-of.ensures.small;
+      low = c.in-Some-number_of.ensures.small;
       room = omega (arith, few);
     }

@@ -11,36 +11,36 @@ use Rattle.world.proofs.Settlements.{refund_same, closed_same, link_listed}
 use Rattle.world.proofs.Verdicts.{refused_by, accepted, refused_from_err, stopped}
 use Rattle.world.proofs.world.World.timeout.Goals as goal
 
-pub returns-in-err-route : goal.returns-in-err-route
-returns-in-err-route g c =
+pub returns-in_err-route : goal.returns-in_err-route
+returns-in_err-route g c =
     let w = view g.L.Ledger.meaning g.F.Book.meaning g.S.Book.meaning c.args.self.now in
-    let n = world_number c.in-err-route.field-0.0 in
-    let r = err_from_is_err_and c.from-residual.result c.from-residual.ensures.1 in
-    let stop = stopped w (timeout c.args.link c.args.direction c.args.sequence) n c.in-err-route.ensures in
+    let n = world_number c.in_err-route.field-0.0 in
+    let r = err_from_is_err_and c.from_residual.result c.from_residual.ensures.1 in
+    let stop = stopped w (timeout c.args.link c.args.direction c.args.sequence) n c.in_err-route.ensures in
     record {
       answer = ap (said (λ (x : Unit {0}). done) world_number) r.1 ∙ ap (λ (f : WorldFault). no (world_number f)) r.2 ∙ stop.0;
       after = stop.1;
     }
 
-pub returns-in-err-refund : goal.returns-in-err-refund
-returns-in-err-refund g c =
+pub returns-in_err-refund : goal.returns-in_err-refund
+returns-in_err-refund g c =
     let w = view g.L.Ledger.meaning g.F.Book.meaning g.S.Book.meaning c.args.self.now in
     let l = c.args.link in
     let d = c.args.direction in
     let s = c.args.sequence in
-    let q = c.in-ok-route.route in
-    let n = c.in-ok-route.place in
-    let p = c.in-ok-route.packet in
-    let a = c.in-ok-route.ensures in
-    let told = c.in-err-refund.ensures in
-    let f = c.in-err-refund.field-0.0 in
+    let q = c.in_ok-route.route in
+    let n = c.in_ok-route.place in
+    let p = c.in_ok-route.packet in
+    let a = c.in_ok-route.ensures in
+    let told = c.in_err-refund.ensures in
+    let f = c.in_err-refund.field-0.0 in
     let by : first (refusals w (timeout l d s)) ≡ Some (world_number f) =
     a.left
     ∙ (λ i. first (34 when sym (refund_same w l d s q n p a.on) i ∷ []))
     ∙ refused_from_err _ tt (world_number f) (sym told.answer)
     in
     let stopped = refused_by w (timeout l d s) (world_number f) by in
-    let r = err_from_is_err_and c.from-residual-in-err-refund.result c.from-residual-in-err-refund.ensures.1 in
+    let r = err_from_is_err_and c.from_residual-in_err-refund.result c.from_residual-in_err-refund.ensures.1 in
     record {
       answer =
           ap (λ (x : Result (Unit {0}) WorldFault). said (λ (y : Unit {0}). done) world_number x) r.1
@@ -49,18 +49,18 @@ returns-in-err-refund g c =
       after = told.after ∙ sym (ap (λ (x : World × Answer). x.0) stopped);
     }
 
-pub close-if-strict-requires : goal.close-if-strict-requires
-close-if-strict-requires g c =
+pub close_if_strict-requires : goal.close_if_strict-requires
+close_if_strict-requires g c =
     let w = view g.L.Ledger.meaning g.F.Book.meaning g.S.Book.meaning c.args.self.now in
     let l = c.args.link in
     let d = c.args.direction in
     let s = c.args.sequence in
-    let q = c.in-ok-route.route in
-    let n = c.in-ok-route.place in
-    let p = c.in-ok-route.packet in
-    let a = c.in-ok-route.ensures in
+    let q = c.in_ok-route.route in
+    let n = c.in_ok-route.place in
+    let p = c.in_ok-route.packet in
+    let a = c.in_ok-route.ensures in
     let v = view g.L.Ledger.meaning g.F.Book.meaning g.S.Book.meaning c.refund.new.self in
-    link_listed w l d s q n p a.on v c.in-ok-refund.ensures.after
+    link_listed w l d s q n p a.on v c.in_ok-refund.ensures.after
 
 pub returns : goal.returns
 returns g c =
@@ -68,12 +68,12 @@ returns g c =
     let l = c.args.link in
     let d = c.args.direction in
     let s = c.args.sequence in
-    let q = c.in-ok-route.route in
-    let n = c.in-ok-route.place in
-    let p = c.in-ok-route.packet in
-    let a = c.in-ok-route.ensures in
+    let q = c.in_ok-route.route in
+    let n = c.in_ok-route.place in
+    let p = c.in_ok-route.packet in
+    let a = c.in_ok-route.ensures in
     let v = view g.L.Ledger.meaning g.F.Book.meaning g.S.Book.meaning c.refund.new.self in
-    let told = c.in-ok-refund.ensures in
+    let told = c.in_ok-refund.ensures in
     let by : first (refusals w (timeout l d s)) ≡ None =
     a.left
     ∙ (λ i. first (34 when sym (refund_same w l d s q n p a.on) i ∷ []))
@@ -83,7 +83,7 @@ returns g c =
     record {
       answer = sym (ap (λ (x : World × Answer). x.1) ok);
       after =
-          c.close-if-strict.ensures
+          c.close_if_strict.ensures
           ∙ closed_same w l d s q n p a.on v told.after
           ∙ sym (ap (λ (x : World × Answer). x.0) ok);
     }
