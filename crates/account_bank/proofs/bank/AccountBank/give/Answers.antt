@@ -4,7 +4,7 @@ use Rattle.account_bank.specs.Table.{table_balances}
 use Rattle.account_bank.proofs.bank.AccountBank.give.Goals as goal
 
 -- a balance is at most its supply, so the new one fits as the new supply does
-pub overflow-add-old : goal.overflow-add-old
-overflow-add-old c =
+pub overflow_add-old : goal.overflow_add-old
+overflow_add-old c =
     let b = table_balances (vec_items c.args.self.now.amounts) in
     omega (arith, balance_in_supply b 0 c.args.account c.args.denomination c.requires.account, c.at-old.ensures)

@@ -11,9 +11,9 @@ give-requires c =
     let bank = c.args.self.now in
     let b = table_balances (vec_items bank.amounts) in
     let at = c.args in
-    let taken = c.in-ok-take.ensures.answer in
-    let left = ap (λ (x : Balances). supply x 0 at.denomination) c.in-ok-take.ensures.after in
-    let served = c.in-ok-take.ensures.chains in
+    let taken = c.in_ok-take.ensures.answer in
+    let left = ap (λ (x : Balances). supply x 0 at.denomination) c.in_ok-take.ensures.after in
+    let served = c.in_ok-take.ensures.chains in
     let from_in : at.from < 24 = grind (arith, nat_tests) in
     let enough : at.amount ≤ b 0 at.from at.denomination = grind (arith, nat_tests) in
     record {

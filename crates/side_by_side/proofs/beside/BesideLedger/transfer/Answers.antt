@@ -12,7 +12,7 @@ returns-in-First g c =
     let m = g.L.Ledger.meaning c.args.self.now.first in
     let k = g.R.Ledger.meaning c.args.self.now.second in
     let at = c.args in
-    let on = subst (λ (s : Side). OnSide m.chains at.chain (Ok s)) c.in-First.is c.in-ok-chain.ensures in
+    let on = subst (λ (s : Side). OnSide m.chains at.chain (Ok s)) c.in-First.is c.in_ok-chain.ensures in
     let told = rw on.2 at c.transfer.ensures.answer in
     let left = rw on.2 at c.transfer.ensures.after in
     record {
@@ -25,7 +25,7 @@ returns-in-Second g c =
     let m = g.L.Ledger.meaning c.args.self.now.first in
     let k = g.R.Ledger.meaning c.args.self.now.second in
     let at = c.args in
-    let on = subst (λ (s : Side). OnSide m.chains at.chain (Ok s)) c.in-Second.is c.in-ok-chain.ensures in
+    let on = subst (λ (s : Side). OnSide m.chains at.chain (Ok s)) c.in-Second.is c.in_ok-chain.ensures in
     let told = rw on.2 at c.transfer-in-Second.ensures.answer in
     let left = rw on.2 at c.transfer-in-Second.ensures.after in
     record {
