@@ -16,17 +16,17 @@ told xs i l o low e =
     let same : suc (l - 1) ≡ l = omega arith in
     ap (λ (s : ℕ). is_some (mark_in xs i s)) same ∙ ap is_some (sym e) ∙ some_mapped o
 
-pub returns-then-is-none : goal.returns-then-is-none
-returns-then-is-none c =
+pub returns-then-is_none : goal.returns-then-is_none
+returns-then-is_none c =
     let l = c.loop-lower.lower in
     let here = told c.args.self.now.places c.args.lane l c.look.result c.loop-lower.auto.lower c.look.ensures in
-    sym (each_fails _ (l - 1) (c.args.sequence - 1) (omega arith) (here ∙ c.if-is-none.ensures))
+    sym (each_fails _ (l - 1) (c.args.sequence - 1) (omega arith) (here ∙ c.if-is_none.ensures))
 
 pub loop-lower-preserved : goal.loop-lower-preserved
 loop-lower-preserved c =
     let l = c.loop-lower.lower in
     let here = told c.args.self.now.places c.args.lane l c.look.result c.loop-lower.auto.lower c.look.ensures in
-    (each_more _ l c.loop-lower.auto.lower c.loop-lower.invariant.0 (here ∙ c.if-is-none.ensures), omega arith)
+    (each_more _ l c.loop-lower.auto.lower c.loop-lower.invariant.0 (here ∙ c.if-is_none.ensures), omega arith)
 
 pub returns : goal.returns
 returns c =
