@@ -5,7 +5,7 @@ use Rattle.note_bank.specs.Notes.{proper, pair_of}
 use Rattle.note_bank.specs.declared.place.Place.TheVariants.{Held}
 use Rattle.note_bank.proofs.Seen.{Noted, count_most, count_more, none_seen, noted_more}
 use Rattle.note_bank.proofs.pairs.find_pair.Goals as goal
-use Rattle.note_bank.proofs.pairs.find_pair.Goals.{in-Held+in-default-seen, in-default}
+use Rattle.note_bank.proofs.pairs.find_pair.Goals.{in-Held+in_default-seen, in_default}
 
 pub loop-index-init : goal.loop-index-init
 loop-index-init c = (refl, λ q k e. absurd (none_seen 768 k q e), refl)
@@ -28,19 +28,19 @@ loop-index-preserved c =
     let i = c.loop-index.index in
     let Kept : List (Option ℕ) → Type 0 = λ s. (count is_some s ≡ i + 1) × Noted xs s (i + 1) × (length s ≡ 768) in
     elim c.match-place.branch [
-      | in-Held+in-default-seen w ↦
+      | in-Held+in_default-seen w ↦
           let n = w.in-Held.note in
           let pair = n.owner * 32 + n.denomination in
           let note : proper (Held n) ≡ true = rw w.in-Held.is at (c.requires.notes i) in
           let small : pair < 768 = grind (arith, nat_tests) in
           let within : pair < length seen = omega (arith, c.loop-index.invariant.2) in
           subst Kept (sym w.seen-is) (
-            count_more xs seen i pair within w.in-default-seen.is c.loop-index.invariant.0,
-            noted_more xs seen i pair within w.in-default-seen.is c.loop-index.invariant.1 (ap pair_of w.in-Held.is),
+            count_more xs seen i pair within w.in_default-seen.is c.loop-index.invariant.0,
+            noted_more xs seen i pair within w.in_default-seen.is c.loop-index.invariant.1 (ap pair_of w.in-Held.is),
             rw length-set c.loop-index.invariant.2,
           )
-      | in-default w ↦
-          let held = rw w.in-default.is at (c.requires.full i c.loop-index-test.true) in
+      | in_default w ↦
+          let held = rw w.in_default.is at (c.requires.full i c.loop-index-test.true) in
           let z : ◌≡◌ {A = ℕ} 0 1 = cc in
           absurd (omega arith)
     ]

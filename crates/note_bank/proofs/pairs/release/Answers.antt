@@ -5,7 +5,7 @@ use Rattle.note_bank.specs.Notes.{belongs, released}
 use Rattle.note_bank.specs.declared.place.Place.{Place}
 use Rattle.note_bank.specs.declared.place.Place.TheVariants.{Free}
 use Rattle.note_bank.proofs.pairs.release.Goals as goal
-use Rattle.note_bank.proofs.pairs.release.Goals.{then-is-note-of, else-is-note-of}
+use Rattle.note_bank.proofs.pairs.release.Goals.{then-is_note_of, else-is_note_of}
 
 -- a place is freed where it is one of those, and else left as it is
 freed : (a d : ℕ) (xs : List Place) (i : ℕ) → belongs a d (get_or xs i Free) ≡ true → set xs i Free ≡ set xs i (released a d (get_or xs i Free))
@@ -24,9 +24,9 @@ loop-place-preserved c =
     let x = get_or ys i Free in
     let in_ys : i < length ys = omega arith in
     let on : set ys i (released a d x) ≡ _ = map_over_more (released a d) xs ys i x (omega arith) c.loop-place.invariant (get_or_default ys i Free x in_ys) in
-    elim c.if-is-note-of.branch [
-      | then-is-note-of w ↦ w.places-is ∙ freed a d ys i (sym c.is-note-of.ensures ∙ w.if-is-note-of.true) ∙ on
-      | else-is-note-of w ↦ w.places-is ∙ left a d ys i (sym c.is-note-of.ensures ∙ w.if-is-note-of.false) ∙ on
+    elim c.if-is_note_of.branch [
+      | then-is_note_of w ↦ w.places-is ∙ freed a d ys i (sym c.is_note_of.ensures ∙ w.if-is_note_of.true) ∙ on
+      | else-is_note_of w ↦ w.places-is ∙ left a d ys i (sym c.is_note_of.ensures ∙ w.if-is_note_of.false) ∙ on
     ]
 
 pub returns : goal.returns

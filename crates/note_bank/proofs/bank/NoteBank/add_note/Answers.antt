@@ -9,33 +9,30 @@ use Rattle.note_bank.specs.declared.place.Place.TheVariants.{Free, Held}
 use Rattle.note_bank.proofs.Shares.{note_added, proper_set}
 use Rattle.note_bank.proofs.bank.NoteBank.add_note.Goals as goal
 
-pub invariant-of-self : goal.invariant-of-self
-invariant-of-self c =
-    let ys = c.free-place-place.new.self.places.items in
-    let l = c.free-place-place.new.self.places.ok.0 in
-    let i = c.free-place-place.result in
+pub invariant_of-self : goal.invariant_of-self
+invariant_of-self c =
+    let ys = c.free_place-place.new.self.places.items in
+    let l = c.free_place-place.new.self.places.ok.0 in
+    let i = c.free_place-place.result in
     let n : Note = record { owner = c.args.account; denomination = c.args.denomination; amount = c.args.amount } in
-    let within : i < length ys = omega (arith, c.free-place-place.ensures.within, c.free-place-place.new.self.front) in
-    let long : 1024 ≤ length ys = omega (arith, c.free-place-place.ensures.len, c.requires.served) in
-    let e = note_added ys i n long within c.free-place-place.ensures.free c.requires.account c.requires.denomination in
+    let within : i < length ys = omega (arith, c.free_place-place.ensures.within, c.free_place-place.new.self.front) in
+    let long : 1024 ≤ length ys = omega (arith, c.free_place-place.ensures.len, c.requires.served) in
+    let e = note_added ys i n long within c.free_place-place.ensures.free c.requires.account c.requires.denomination in
     let Law : Balances → Type 0 = λ b. (c' d : ℕ) → supply b c' d ≤ most in
-    let fits = rw (sym c.free-place-place.ensures.after) at c.requires.fits in
-    let some = c.requires.some in (
-      subst Law (sym e) (supplies_kept (note_balances ys) 0 c.args.account c.args.denomination (note_balances ys 0 c.args.account c.args.denomination + c.args.amount) c.requires.account c.free-place-place.new.self.supplies (omega (arith, fits))),
-      (proper_set ys i (Held n) within c.free-place-place.new.self.notes (grind (arith, nat_tests)), (c.free-place-place.new.self.front, (λ k h. let past : k ≢ i = omega (arith, c.free-place-place.ensures.within) in get_or-set_other ys i k (Held n) Free past ∙ c.free-place-place.new.self.rest k h, tt))),
-    )
+    let fits = rw (sym c.free_place-place.ensures.after) at c.requires.fits in
+    let some = c.requires.some in record { supplies = subst Law (sym e) (supplies_kept (note_balances ys) 0 c.args.account c.args.denomination (note_balances ys 0 c.args.account c.args.denomination + c.args.amount) c.requires.account c.free_place-place.new.self.supplies (omega (arith, fits))); notes = proper_set ys i (Held n) within c.free_place-place.new.self.notes (grind (arith, nat_tests)); front = c.free_place-place.new.self.front; rest = (λ k h. let past : k ≢ i = omega (arith, c.free_place-place.ensures.within) in get_or-set_other ys i k (Held n) Free past ∙ c.free_place-place.new.self.rest k h) }
 
 pub returns : goal.returns
 returns c =
-    let ys = c.free-place-place.new.self.places.items in
-    let l = c.free-place-place.new.self.places.ok.0 in
-    let i = c.free-place-place.result in
+    let ys = c.free_place-place.new.self.places.items in
+    let l = c.free_place-place.new.self.places.ok.0 in
+    let i = c.free_place-place.result in
     let n : Note = record { owner = c.args.account; denomination = c.args.denomination; amount = c.args.amount } in
-    let within : i < length ys = omega (arith, c.free-place-place.ensures.within, c.free-place-place.new.self.front) in
-    let long : 1024 ≤ length ys = omega (arith, c.free-place-place.ensures.len, c.requires.served) in
+    let within : i < length ys = omega (arith, c.free_place-place.ensures.within, c.free_place-place.new.self.front) in
+    let long : 1024 ≤ length ys = omega (arith, c.free_place-place.ensures.len, c.requires.served) in
     record {
-      len = c.free-place-place.ensures.len;
+      len = c.free_place-place.ensures.len;
       after =
-          note_added ys i n long within c.free-place-place.ensures.free c.requires.account c.requires.denomination
-          ∙ ap (λ (b : Balances). put b 0 c.args.account c.args.denomination (b 0 c.args.account c.args.denomination + c.args.amount)) c.free-place-place.ensures.after;
+          note_added ys i n long within c.free_place-place.ensures.free c.requires.account c.requires.denomination
+          ∙ ap (λ (b : Balances). put b 0 c.args.account c.args.denomination (b 0 c.args.account c.args.denomination + c.args.amount)) c.free_place-place.ensures.after;
     }

@@ -5,8 +5,8 @@ use Rattle.note_bank.specs.declared.place.Place.TheVariants.{Free}
 use Rattle.note_bank.proofs.Fronts.{in_front}
 use Rattle.note_bank.proofs.bank.NoteBank.free_place.Goals as goal
 
-pub fresh-place-requires : goal.fresh-place-requires
-fresh-place-requires c =
+pub fresh_place-requires : goal.fresh_place-requires
+fresh_place-requires c =
     record { served = c.requires.served; full = subst Full c.front.ensures c.in-None.ensures }
 
 pub returns-in-Some : goal.returns-in-Some

@@ -11,8 +11,8 @@ use Rattle.note_bank.proofs.Shares.{balances_same}
 use Rattle.note_bank.proofs.bank.NoteBank.join.Goals as goal
 
 -- the places used hold a pair
-pub find-pair-first-requires : goal.find-pair-first-requires
-find-pair-first-requires c =
+pub find_pair-first-requires : goal.find_pair-first-requires
+find_pair-first-requires c =
     let bank = c.args.self.now in
     let xs = bank.places.items in
     let l = bank.places.ok.0 in
@@ -31,16 +31,16 @@ join-requires c =
     let bank = c.args.self.now in
     let xs = bank.places.items in
     let l = bank.places.ok.0 in
-    let i = c.find-pair-first.result.0 in
-    let j = c.find-pair-first.result.1 in
-    let order = c.find-pair-first.ensures.order in
+    let i = c.find_pair-first.result.0 in
+    let j = c.find_pair-first.result.1 in
+    let order = c.find_pair-first.ensures.order in
     let short : bank.used ≤ length xs = omega (arith, bank.front) in
-    let lent : xs ≡ c.deref-mut.result.now = sym c.deref-mut.ensures.value in
-    let found : j < bank.used = in_front bank.used j xs c.front.result.now short c.front.ensures c.find-pair-first.ensures.within in
+    let lent : xs ≡ c.deref_mut.result.now = sym c.deref_mut.ensures.value in
+    let found : j < bank.used = in_front bank.used j xs c.front.result.now short c.front.ensures c.find_pair-first.ensures.within in
     let before : i < bank.used = omega arith in
     let within : j < length xs = omega arith in
     let alike : Alike (get_or xs i Free) (get_or xs j Free) =
-    rw (get_or-take bank.used xs i Free before, get_or-take bank.used xs j Free found) at (subst (λ (ys : List Place). Alike (get_or ys i Free) (get_or ys j Free)) c.front.ensures c.find-pair-first.ensures.alike) in
+    rw (get_or-take bank.used xs i Free before, get_or-take bank.used xs j Free found) at (subst (λ (ys : List Place). Alike (get_or ys i Free) (get_or ys j Free)) c.front.ensures c.find_pair-first.ensures.alike) in
     let fits = joint_fits xs i j order within (omega (arith, c.requires.served)) bank.notes alike bank.supplies in
     record {
       order = order;
@@ -50,23 +50,20 @@ join-requires c =
       fits = rw lent at fits;
     }
 
-pub invariant-of-self : goal.invariant-of-self
-invariant-of-self c =
+pub invariant_of-self : goal.invariant_of-self
+invariant_of-self c =
     let bank = c.args.self.now in
     let xs = bank.places.items in
     let ys = c.join.new.places in
     let l = bank.places.ok.0 in
     let same : length ys ≡ length xs = omega (arith, c.join.auto.places) in
     let short : bank.used ≤ length xs = omega (arith, bank.front) in
-    let found = in_front bank.used c.find-pair-first.result.1 xs c.front.result.now short c.front.ensures c.find-pair-first.ensures.within in
+    let found = in_front bank.used c.find_pair-first.result.1 xs c.front.result.now short c.front.ensures c.find_pair-first.ensures.within in
     let whole = lent_whole bank.places.len ys xs (omega arith) same in
-    let balances = balances_same xs ys same (λ a d. c.join.ensures.same a d ∙ ap (λ (zs : List Place). held zs a d) c.deref-mut.ensures.value) in
+    let balances = balances_same xs ys same (λ a d. c.join.ensures.same a d ∙ ap (λ (zs : List Place). held zs a d) c.deref_mut.ensures.value) in
     let rest : FreeFrom bank.used ys =
-    λ k h. c.join.ensures.behind k (omega arith) ∙ ap (λ (zs : List Place). get_or zs k Free) c.deref-mut.ensures.value ∙ bank.rest k h in
-    let Law : Balances → Type 0 = λ b. (c' d : ℕ) → supply b c' d ≤ most in (
-      subst Law (sym (ap note_balances whole ∙ balances)) bank.supplies,
-      (subst Proper (sym whole) c.join.ensures.notes, (bank.front, (subst (FreeFrom bank.used) (sym whole) rest, tt))),
-    )
+    λ k h. c.join.ensures.behind k (omega arith) ∙ ap (λ (zs : List Place). get_or zs k Free) c.deref_mut.ensures.value ∙ bank.rest k h in
+    let Law : Balances → Type 0 = λ b. (c' d : ℕ) → supply b c' d ≤ most in record { supplies = subst Law (sym (ap note_balances whole ∙ balances)) bank.supplies; notes = subst Proper (sym whole) c.join.ensures.notes; front = bank.front; rest = subst (FreeFrom bank.used) (sym whole) rest }
 
 pub returns : goal.returns
 returns c =
@@ -77,10 +74,10 @@ returns c =
     let same : length ys ≡ length xs = omega (arith, c.join.auto.places) in
     let short : bank.used ≤ length xs = omega (arith, bank.front) in
     let whole = lent_whole bank.places.len ys xs (omega arith) same in
-    let j = c.find-pair-first.result.1 in
+    let j = c.find_pair-first.result.1 in
     record {
       len = refl;
-      after = ap note_balances whole ∙ balances_same xs ys same (λ a d. c.join.ensures.same a d ∙ ap (λ (zs : List Place). held zs a d) c.deref-mut.ensures.value);
-      within = in_front bank.used j xs c.front.result.now short c.front.ensures c.find-pair-first.ensures.within;
+      after = ap note_balances whole ∙ balances_same xs ys same (λ a d. c.join.ensures.same a d ∙ ap (λ (zs : List Place). held zs a d) c.deref_mut.ensures.value);
+      within = in_front bank.used j xs c.front.result.now short c.front.ensures c.find_pair-first.ensures.within;
       free = ap (λ (zs : List Place). get_or zs j Free) whole ∙ c.join.ensures.free;
     }

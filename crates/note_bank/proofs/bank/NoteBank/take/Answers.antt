@@ -5,8 +5,8 @@ use Rattle.note_bank.specs.Notes.{note_balances}
 use Rattle.note_bank.proofs.bank.NoteBank.take.Goals as goal
 
 -- what is left of the notes fits where they were
-pub add-note-requires : goal.add-note-requires
-add-note-requires c =
+pub add_note-requires : goal.add_note-requires
+add_note-requires c =
     let b = note_balances (vec_items c.args.self.now.places) in
     let left = supply_put b 0 c.args.account c.args.denomination 0 c.requires.account in
     let now = ap (λ (x : Balances). supply x 0 c.args.denomination) c.release.ensures.after in

@@ -6,14 +6,14 @@ use Rattle.note_bank.specs.Notes.{note_balances}
 use Rattle.note_bank.proofs.bank.NoteBankLedger.transfer.Goals as goal
 
 -- what was taken leaves room for as much
-pub add-note-requires : goal.add-note-requires
-add-note-requires c =
+pub add_note-requires : goal.add_note-requires
+add_note-requires c =
     let bank = c.args.self.now in
     let b = note_balances (vec_items bank.places) in
     let at = c.args in
-    let taken = c.in-ok-take.ensures.answer in
-    let left = ap (λ (x : Balances). supply x 0 at.denomination) c.in-ok-take.ensures.after in
-    let len = c.in-ok-take.ensures.len in
+    let taken = c.in_ok-take.ensures.answer in
+    let left = ap (λ (x : Balances). supply x 0 at.denomination) c.in_ok-take.ensures.after in
+    let len = c.in_ok-take.ensures.len in
     let from_in : at.from < 24 = grind (arith, nat_tests) in
     let enough : at.amount ≤ b 0 at.from at.denomination = grind (arith, nat_tests) in
     record {
