@@ -11,14 +11,14 @@ returns-then-number-known g c =
     let w = view g.L.Ledger.meaning g.F.Book.meaning g.S.Book.meaning c.args.world.now in
     let r = c.in-Some.route in
     let P : Tables → Type 0 = λ t. Leads (links_in t.links) (closed_in t.links) (c.args.lane / 2) (c.args.lane % 2) r in
-    let known = c.denominations-on-known.ensures.known ∙ ap (λ (t : Tables). denoms_of t.denominations r.near.chain) c.tables-2.ensures in
-    no_number w c.args.lane c.args.number w.closed r (subst P c.tables.ensures c.in-Some.ensures) c.denominations-on-known.result.now known c.if-number-known.true
+    let known = c.denominations_on-known.ensures.known ∙ ap (λ (t : Tables). denoms_of t.denominations r.near.chain) c.tables-2.ensures in
+    no_number w c.args.lane c.args.number w.closed r (subst P c.tables.ensures c.in-Some.ensures) c.denominations_on-known.result.now known c.if-number-known.true
 
 pub returns : goal.returns
 returns g c =
     let w = view g.L.Ledger.meaning g.F.Book.meaning g.S.Book.meaning c.args.world.now in
     let r = c.in-Some.route in
     let P : Tables → Type 0 = λ t. Leads (links_in t.links) (closed_in t.links) (c.args.lane / 2) (c.args.lane % 2) r in
-    let known = c.denominations-on-known.ensures.known ∙ ap (λ (t : Tables). denoms_of t.denominations r.near.chain) c.tables-2.ensures in
-    entered w c.args.lane c.args.number w.closed r (subst P c.tables.ensures c.in-Some.ensures) c.denominations-on-known.result.now known
-    c.index-known-number.result c.escrow-at-escrow.result c.if-number-known.false c.index-known-number.is c.escrow-at-escrow.ensures c.if-escrow-eq0.false
+    let known = c.denominations_on-known.ensures.known ∙ ap (λ (t : Tables). denoms_of t.denominations r.near.chain) c.tables-2.ensures in
+    entered w c.args.lane c.args.number w.closed r (subst P c.tables.ensures c.in-Some.ensures) c.denominations_on-known.result.now known
+    c.index-known-number.result c.escrow_at-escrow.result c.if-number-known.false c.index-known-number.is c.escrow_at-escrow.ensures c.if-escrow-eq0.false

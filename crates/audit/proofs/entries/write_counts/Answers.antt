@@ -15,6 +15,6 @@ returns g c =
     let told : line_of (codes "audit") (figure c.len-tokens.result ∷ figure c.len-links.result ∷ figure c.len-packets.result ∷ []) ≡ count_line w =
     λ i. line_of (codes "audit") (figure (tokens i) ∷ figure (links i) ∷ figure (packets i) ∷ []) in
     record {
-      length = c.put-counts.ensures.length ∙ ap length told;
-      buffer = c.put-counts.ensures.buffer ∙ ap (λ l. over l c.args.buffer.now) told;
+      length = c.put_counts.ensures.length ∙ ap length told;
+      buffer = c.put_counts.ensures.buffer ∙ ap (λ l. over l c.args.buffer.now) told;
     }

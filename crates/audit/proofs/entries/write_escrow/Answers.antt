@@ -16,14 +16,14 @@ returns g c =
     let lane = c.args.lane in
     let line = escrow_line w (lane / 2) (lane % 2) c.args.number in
     let at = c.in-Some.ensures in
-    let vouchers = c.vouchers-of-vouchers.ensures ∙ (λ i. supply_of w (at.far i).chain (behind (at.far i).channel (at.denomination i))) in
+    let vouchers = c.vouchers_of-vouchers.ensures ∙ (λ i. supply_of w (at.far i).chain (behind (at.far i).channel (at.denomination i))) in
     let carried =
-    c.open-across-carried.ensures.sum
+    c.open_across-carried.ensures.sum
     ∙ (λ i. open_packets w (on_lane_with (at.lane_is i) (at.denomination i)) + open_packets w (on_lane_with (leads_back lane i) (behind (at.far i).channel (at.denomination i))))
     in
-    let told : line_of (codes "escrow") (figure (lane / 2) ∷ figure (lane % 2) ∷ denom_text (denom_view c.in-Some.entry.denomination) ∷ figure c.in-Some.entry.escrow ∷ figure c.vouchers-of-vouchers.result ∷ figure c.open-across-carried.result ∷ []) ≡ line =
+    let told : line_of (codes "escrow") (figure (lane / 2) ∷ figure (lane % 2) ∷ denom_text (denom_view c.in-Some.entry.denomination) ∷ figure c.in-Some.entry.escrow ∷ figure c.vouchers_of-vouchers.result ∷ figure c.open_across-carried.result ∷ []) ≡ line =
     λ i. line_of (codes "escrow") (figure (lane / 2) ∷ figure (lane % 2) ∷ denom_text (at.denomination i) ∷ figure (at.held i) ∷ figure (vouchers i) ∷ figure (carried i) ∷ []) in
     record {
-      answer = filled_answer _ _ _ line at.there c.put-escrow-len.ensures.length told;
-      buffer = filled_buffer _ _ c.args.buffer.now _ line at.there c.put-escrow-len.ensures.buffer told;
+      answer = filled_answer _ _ _ line at.there c.put_escrow-len.ensures.length told;
+      buffer = filled_buffer _ _ c.args.buffer.now _ line at.there c.put_escrow-len.ensures.buffer told;
     }

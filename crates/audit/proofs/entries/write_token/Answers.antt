@@ -16,8 +16,8 @@ use Rattle.audit.proofs.entries.write_token.Goals as goal
 pub returns-then-number-tokens : goal.returns-then-number-tokens
 returns-then-number-tokens g c =
     let w = view g.L.Ledger.meaning g.F.Book.meaning g.S.Book.meaning c.args.world.now in
-    let known = c.as-slice-tokens.ensures ∙ ap (λ (t : Tables). tokens_in t.tokens) c.tables.ensures in
-    let past : ltb c.args.number (length w.tokens) ≡ false = le-ltb _ _ (omega (arith, c.if-number-tokens.true, ap length known, length-map c.as-slice-tokens.result.now token_view)) in
+    let known = c.as_slice-tokens.ensures ∙ ap (λ (t : Tables). tokens_in t.tokens) c.tables.ensures in
+    let past : ltb c.args.number (length w.tokens) ≡ false = le-ltb _ _ (omega (arith, c.if-number-tokens.true, ap length known, length-map c.as_slice-tokens.result.now token_view)) in
     let line = token_line w (get_or w.tokens c.args.number no_token) in
     record {
       answer = empty_answer _ (length line) past;
@@ -28,18 +28,18 @@ pub returns : goal.returns
 returns g c =
     let w = view g.L.Ledger.meaning g.F.Book.meaning g.S.Book.meaning c.args.world.now in
     let t = c.index-tokens-number.result in
-    let known = c.as-slice-tokens.ensures ∙ ap (λ (t : Tables). tokens_in t.tokens) c.tables.ensures in
-    let there : ltb c.args.number (length w.tokens) ≡ true = lt-ltb _ _ (omega (arith, c.if-number-tokens.false, ap length known, length-map c.as-slice-tokens.result.now token_view)) in
+    let known = c.as_slice-tokens.ensures ∙ ap (λ (t : Tables). tokens_in t.tokens) c.tables.ensures in
+    let there : ltb c.args.number (length w.tokens) ≡ true = lt-ltb _ _ (omega (arith, c.if-number-tokens.false, ap length known, length-map c.as_slice-tokens.result.now token_view)) in
     let seen : token_view t ≡ get_or w.tokens c.args.number no_token =
     ap token_view c.index-tokens-number.is
-    ∙ sym (get_or-map token_view c.as-slice-tokens.result.now c.args.number t no_token c.if-number-tokens.false)
+    ∙ sym (get_or-map token_view c.as_slice-tokens.result.now c.args.number t no_token c.if-number-tokens.false)
     ∙ ap (λ (l : List Token). get_or l c.args.number no_token) known
     in
     let told =
-    (λ i. line_of (codes "token") (figure t.chain ∷ symbol_of t.symbol ∷ figure (c.supply-of-token-supply.ensures i) ∷ figure (c.held-users.ensures.sum i) ∷ figure (c.open-of-token-carried.ensures.sum i) ∷ []))
+    (λ i. line_of (codes "token") (figure t.chain ∷ symbol_of t.symbol ∷ figure (c.supply_of_token-supply.ensures i) ∷ figure (c.held-users.ensures.sum i) ∷ figure (c.open_of_token-carried.ensures.sum i) ∷ []))
     ∙ ap (token_line w) seen
     in
     record {
-      answer = filled_answer _ _ _ (token_line w (get_or w.tokens c.args.number no_token)) there c.put-token-len.ensures.length told;
-      buffer = filled_buffer _ _ c.args.buffer.now _ (token_line w (get_or w.tokens c.args.number no_token)) there c.put-token-len.ensures.buffer told;
+      answer = filled_answer _ _ _ (token_line w (get_or w.tokens c.args.number no_token)) there c.put_token-len.ensures.length told;
+      buffer = filled_buffer _ _ c.args.buffer.now _ (token_line w (get_or w.tokens c.args.number no_token)) there c.put_token-len.ensures.buffer told;
     }

@@ -9,10 +9,10 @@ use Rattle.audit.proofs.figures.denominations_on.Goals as goal
 pub returns-then-chain-rows : goal.returns-then-chain-rows
 returns-then-chain-rows c =
     let rows = c.args.tables.now.denominations in
-    let is = c.as-slice.ensures ∙ ap denoms_in (c.index-rows-chain.is ∙ get_or_default rows c.args.chain c.index-rows-chain.result no_denominations c.if-chain-rows.true) in
+    let is = c.as_slice.ensures ∙ ap denoms_in (c.index-rows-chain.is ∙ get_or_default rows c.args.chain c.index-rows-chain.result no_denominations c.if-chain-rows.true) in
     record {
       known = is;
-      few = omega (arith, ap length is, length-map c.as-slice.result.now denom_view, few_denoms rows c.args.chain);
+      few = omega (arith, ap length is, length-map c.as_slice.result.now denom_view, few_denoms rows c.args.chain);
       chain = search rules;
     }
 

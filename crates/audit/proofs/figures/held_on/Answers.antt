@@ -9,9 +9,9 @@ use Rattle.audit.proofs.figures.held_on.Goals as goal
 pub returns : goal.returns
 returns g c =
     let w = view g.L.Ledger.meaning g.F.Book.meaning g.S.Book.meaning c.args.world.now in
-    let on = c.denominations-on.ensures in
+    let on = c.denominations_on.ensures in
     let known = on.known ∙ ap (λ (t : Tables). denoms_of t.denominations c.args.chain) c.tables.ensures in
     record {
-      sum = c.add-up.ensures.sum ∙ held_counted w (token_view c.args.token.now) c.args.chain c.denominations-on.result.now known on.few on.chain;
-      within = omega (arith, c.add-up.ensures.within, on.few);
+      sum = c.add_up.ensures.sum ∙ held_counted w (token_view c.args.token.now) c.args.chain c.denominations_on.result.now known on.few on.chain;
+      within = omega (arith, c.add_up.ensures.within, on.few);
     }

@@ -10,8 +10,8 @@ use Rattle.audit.proofs.figures.open_on.Goals as goal
 pub returns : goal.returns
 returns g c =
     let w = view g.L.Ledger.meaning g.F.Book.meaning g.S.Book.meaning c.args.world.now in
-    let sent = c.as-slice.ensures ∙ ap (λ (t : Tables). packets_in t.packets) c.tables.ensures in
+    let sent = c.as_slice.ensures ∙ ap (λ (t : Tables). packets_in t.packets) c.tables.ensures in
     record {
-      sum = c.add-up.ensures.sum ∙ open_counted w (on_lane_with c.args.lane (denom_view c.args.denomination.now)) c.as-slice.result.now sent;
-      within = omega (arith, c.add-up.ensures.within, few_packets c.args.world.now.tables.packets c.as-slice.result.now sent);
+      sum = c.add_up.ensures.sum ∙ open_counted w (on_lane_with c.args.lane (denom_view c.args.denomination.now)) c.as_slice.result.now sent;
+      within = omega (arith, c.add_up.ensures.within, few_packets c.args.world.now.tables.packets c.as_slice.result.now sent);
     }

@@ -22,11 +22,11 @@ pub returns-then-number-lt-DENOMINATIONS : goal.returns-then-number-lt-DENOMINAT
 returns-then-number-lt-DENOMINATIONS g c =
     let w = view g.L.Ledger.meaning g.F.Book.meaning g.S.Book.meaning c.args.world.now in
     supply_by_number w c.args.chain c.in-Some.number _ (denom_view c.args.denomination.now)
-    (numbered c.args.denomination.now c.denominations-on.result.now _ _ c.args.chain _ c.denominations-on.ensures.known c.tables.ensures c.in-Some.ensures)
-    (c.supply-at.ensures ∙ ap (λ l. supply (g.L.Ledger.meaning l).balance c.args.chain c.in-Some.number) c.ledger.ensures)
+    (numbered c.args.denomination.now c.denominations_on.result.now _ _ c.args.chain _ c.denominations_on.ensures.known c.tables.ensures c.in-Some.ensures)
+    (c.supply_at.ensures ∙ ap (λ l. supply (g.L.Ledger.meaning l).balance c.args.chain c.in-Some.number) c.ledger.ensures)
 
 pub returns-in-None : goal.returns-in-None
 returns-in-None g c =
     let w = view g.L.Ledger.meaning g.F.Book.meaning g.S.Book.meaning c.args.world.now in
     no_supply w c.args.chain (denom_view c.args.denomination.now)
-    (numbered c.args.denomination.now c.denominations-on.result.now _ _ c.args.chain _ c.denominations-on.ensures.known c.tables.ensures c.in-None.ensures)
+    (numbered c.args.denomination.now c.denominations_on.result.now _ _ c.args.chain _ c.denominations_on.ensures.known c.tables.ensures c.in-None.ensures)

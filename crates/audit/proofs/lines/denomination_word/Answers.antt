@@ -7,7 +7,7 @@ use Rattle.audit.proofs.lines.denomination_word.Goals as goal
 pub returns : goal.returns
 returns c =
     let space = c.bytes.ensures in
-    let told = c.write-denomination.ensures in
+    let told = c.write_denomination.ensures in
     record {
       room = told.room ∙ space.room;
       short = omega (arith, told.short, space.at);

@@ -5,8 +5,8 @@ use Rattle.figures.proofs.Parts.{words_held}
 use Rattle.audit.proofs.Written.{line_held}
 use Rattle.audit.proofs.lines.put_counts.Goals as goal
 
-pub figure-word-requires : goal.figure-word-requires
-figure-word-requires c =
+pub figure_word-requires : goal.figure_word-requires
+figure_word-requires c =
     let start = c.over-line.ensures in
     omega (
       arith,
@@ -18,8 +18,8 @@ figure-word-requires c =
       length_figure_64 c.args.tokens c.ranges.tokens.fits,
     )
 
-pub figure-word-requires-2 : goal.figure-word-requires-2
-figure-word-requires-2 c =
+pub figure_word-requires-2 : goal.figure_word-requires-2
+figure_word-requires-2 c =
     let start = c.over-line.ensures in
     omega (
       arith,
@@ -29,13 +29,13 @@ figure-word-requires-2 c =
       c.bytes.ensures.at,
       c.bytes.ensures.room,
       length_figure_64 c.args.tokens c.ranges.tokens.fits,
-      c.figure-word.ensures.at,
-      c.figure-word.ensures.room,
+      c.figure_word.ensures.at,
+      c.figure_word.ensures.room,
       length_figure_64 c.args.links c.ranges.links.fits,
     )
 
-pub figure-word-requires-3 : goal.figure-word-requires-3
-figure-word-requires-3 c =
+pub figure_word-requires-3 : goal.figure_word-requires-3
+figure_word-requires-3 c =
     let start = c.over-line.ensures in
     omega (
       arith,
@@ -45,11 +45,11 @@ figure-word-requires-3 c =
       c.bytes.ensures.at,
       c.bytes.ensures.room,
       length_figure_64 c.args.tokens c.ranges.tokens.fits,
-      c.figure-word.ensures.at,
-      c.figure-word.ensures.room,
+      c.figure_word.ensures.at,
+      c.figure_word.ensures.room,
       length_figure_64 c.args.links c.ranges.links.fits,
-      c.figure-word-2.ensures.at,
-      c.figure-word-2.ensures.room,
+      c.figure_word-2.ensures.at,
+      c.figure_word-2.ensures.room,
       length_figure_64 c.args.packets c.ranges.packets.fits,
     )
 
@@ -64,14 +64,14 @@ bytes-requires-2 c =
       c.bytes.ensures.at,
       c.bytes.ensures.room,
       length_figure_64 c.args.tokens c.ranges.tokens.fits,
-      c.figure-word.ensures.at,
-      c.figure-word.ensures.room,
+      c.figure_word.ensures.at,
+      c.figure_word.ensures.room,
       length_figure_64 c.args.links c.ranges.links.fits,
-      c.figure-word-2.ensures.at,
-      c.figure-word-2.ensures.room,
+      c.figure_word-2.ensures.at,
+      c.figure_word-2.ensures.room,
       length_figure_64 c.args.packets c.ranges.packets.fits,
-      c.figure-word-3.ensures.at,
-      c.figure-word-3.ensures.room,
+      c.figure_word-3.ensures.at,
+      c.figure_word-3.ensures.room,
     )
 
 pub returns : goal.returns
@@ -86,9 +86,9 @@ returns c =
     line_held _ _ first words before
     (c.bytes-2.ensures.holds (first ++ spaced words) before
     (words_held _ _ first words before
-    (c.figure-word-3.ensures.holds text-2 before
-    (c.figure-word-2.ensures.holds text-1 before
-    (c.figure-word.ensures.holds first before
+    (c.figure_word-3.ensures.holds text-2 before
+    (c.figure_word-2.ensures.holds text-1 before
+    (c.figure_word.ensures.holds first before
     (c.bytes.ensures.holds [] before (start.at, start.buffer)))))))
     in
     let filled : c.bytes-2.new.self.buffer.now ≡ over (line_of first words) before = held.1 in

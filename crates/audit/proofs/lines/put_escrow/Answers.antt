@@ -7,8 +7,8 @@ use Rattle.denom.specs.Views.{denom_view}
 use Rattle.audit.proofs.Written.{line_held}
 use Rattle.audit.proofs.lines.put_escrow.Goals as goal
 
-pub figure-word-requires : goal.figure-word-requires
-figure-word-requires c =
+pub figure_word-requires : goal.figure_word-requires
+figure_word-requires c =
     let start = c.over-line.ensures in
     omega (
       arith,
@@ -20,8 +20,8 @@ figure-word-requires c =
       length_figure_64 c.args.link c.ranges.link.fits,
     )
 
-pub figure-word-requires-2 : goal.figure-word-requires-2
-figure-word-requires-2 c =
+pub figure_word-requires-2 : goal.figure_word-requires-2
+figure_word-requires-2 c =
     let start = c.over-line.ensures in
     omega (
       arith,
@@ -31,13 +31,13 @@ figure-word-requires-2 c =
       c.bytes.ensures.at,
       c.bytes.ensures.room,
       length_figure_64 c.args.link c.ranges.link.fits,
-      c.figure-word.ensures.at,
-      c.figure-word.ensures.room,
+      c.figure_word.ensures.at,
+      c.figure_word.ensures.room,
       length_figure_64 c.args.end c.ranges.end.fits,
     )
 
-pub denomination-word-requires : goal.denomination-word-requires
-denomination-word-requires c =
+pub denomination_word-requires : goal.denomination_word-requires
+denomination_word-requires c =
     let start = c.over-line.ensures in
     omega (
       arith,
@@ -47,15 +47,15 @@ denomination-word-requires c =
       c.bytes.ensures.at,
       c.bytes.ensures.room,
       length_figure_64 c.args.link c.ranges.link.fits,
-      c.figure-word.ensures.at,
-      c.figure-word.ensures.room,
+      c.figure_word.ensures.at,
+      c.figure_word.ensures.room,
       length_figure_64 c.args.end c.ranges.end.fits,
-      c.figure-word-2.ensures.at,
-      c.figure-word-2.ensures.room,
+      c.figure_word-2.ensures.at,
+      c.figure_word-2.ensures.room,
     )
 
-pub figure-word-requires-3 : goal.figure-word-requires-3
-figure-word-requires-3 c =
+pub figure_word-requires-3 : goal.figure_word-requires-3
+figure_word-requires-3 c =
     let start = c.over-line.ensures in
     omega (
       arith,
@@ -65,18 +65,18 @@ figure-word-requires-3 c =
       c.bytes.ensures.at,
       c.bytes.ensures.room,
       length_figure_64 c.args.link c.ranges.link.fits,
-      c.figure-word.ensures.at,
-      c.figure-word.ensures.room,
+      c.figure_word.ensures.at,
+      c.figure_word.ensures.room,
       length_figure_64 c.args.end c.ranges.end.fits,
-      c.figure-word-2.ensures.at,
-      c.figure-word-2.ensures.room,
-      c.denomination-word.ensures.short,
-      c.denomination-word.ensures.room,
+      c.figure_word-2.ensures.at,
+      c.figure_word-2.ensures.room,
+      c.denomination_word.ensures.short,
+      c.denomination_word.ensures.room,
       length_figure_64 c.args.escrow c.ranges.escrow.fits,
     )
 
-pub figure-word-requires-4 : goal.figure-word-requires-4
-figure-word-requires-4 c =
+pub figure_word-requires-4 : goal.figure_word-requires-4
+figure_word-requires-4 c =
     let start = c.over-line.ensures in
     omega (
       arith,
@@ -86,21 +86,21 @@ figure-word-requires-4 c =
       c.bytes.ensures.at,
       c.bytes.ensures.room,
       length_figure_64 c.args.link c.ranges.link.fits,
-      c.figure-word.ensures.at,
-      c.figure-word.ensures.room,
+      c.figure_word.ensures.at,
+      c.figure_word.ensures.room,
       length_figure_64 c.args.end c.ranges.end.fits,
-      c.figure-word-2.ensures.at,
-      c.figure-word-2.ensures.room,
-      c.denomination-word.ensures.short,
-      c.denomination-word.ensures.room,
+      c.figure_word-2.ensures.at,
+      c.figure_word-2.ensures.room,
+      c.denomination_word.ensures.short,
+      c.denomination_word.ensures.room,
       length_figure_64 c.args.escrow c.ranges.escrow.fits,
-      c.figure-word-3.ensures.at,
-      c.figure-word-3.ensures.room,
+      c.figure_word-3.ensures.at,
+      c.figure_word-3.ensures.room,
       length_figure_64 c.args.vouchers c.ranges.vouchers.fits,
     )
 
-pub figure-word-requires-5 : goal.figure-word-requires-5
-figure-word-requires-5 c =
+pub figure_word-requires-5 : goal.figure_word-requires-5
+figure_word-requires-5 c =
     let start = c.over-line.ensures in
     omega (
       arith,
@@ -110,19 +110,19 @@ figure-word-requires-5 c =
       c.bytes.ensures.at,
       c.bytes.ensures.room,
       length_figure_64 c.args.link c.ranges.link.fits,
-      c.figure-word.ensures.at,
-      c.figure-word.ensures.room,
+      c.figure_word.ensures.at,
+      c.figure_word.ensures.room,
       length_figure_64 c.args.end c.ranges.end.fits,
-      c.figure-word-2.ensures.at,
-      c.figure-word-2.ensures.room,
-      c.denomination-word.ensures.short,
-      c.denomination-word.ensures.room,
+      c.figure_word-2.ensures.at,
+      c.figure_word-2.ensures.room,
+      c.denomination_word.ensures.short,
+      c.denomination_word.ensures.room,
       length_figure_64 c.args.escrow c.ranges.escrow.fits,
-      c.figure-word-3.ensures.at,
-      c.figure-word-3.ensures.room,
+      c.figure_word-3.ensures.at,
+      c.figure_word-3.ensures.room,
       length_figure_64 c.args.vouchers c.ranges.vouchers.fits,
-      c.figure-word-4.ensures.at,
-      c.figure-word-4.ensures.room,
+      c.figure_word-4.ensures.at,
+      c.figure_word-4.ensures.room,
       length_figure_le 24 c.args.carried (omega arith) c.requires.carried,
     )
 
@@ -137,22 +137,22 @@ bytes-requires-2 c =
       c.bytes.ensures.at,
       c.bytes.ensures.room,
       length_figure_64 c.args.link c.ranges.link.fits,
-      c.figure-word.ensures.at,
-      c.figure-word.ensures.room,
+      c.figure_word.ensures.at,
+      c.figure_word.ensures.room,
       length_figure_64 c.args.end c.ranges.end.fits,
-      c.figure-word-2.ensures.at,
-      c.figure-word-2.ensures.room,
-      c.denomination-word.ensures.short,
-      c.denomination-word.ensures.room,
+      c.figure_word-2.ensures.at,
+      c.figure_word-2.ensures.room,
+      c.denomination_word.ensures.short,
+      c.denomination_word.ensures.room,
       length_figure_64 c.args.escrow c.ranges.escrow.fits,
-      c.figure-word-3.ensures.at,
-      c.figure-word-3.ensures.room,
+      c.figure_word-3.ensures.at,
+      c.figure_word-3.ensures.room,
       length_figure_64 c.args.vouchers c.ranges.vouchers.fits,
-      c.figure-word-4.ensures.at,
-      c.figure-word-4.ensures.room,
+      c.figure_word-4.ensures.at,
+      c.figure_word-4.ensures.room,
       length_figure_le 24 c.args.carried (omega arith) c.requires.carried,
-      c.figure-word-5.ensures.at,
-      c.figure-word-5.ensures.room,
+      c.figure_word-5.ensures.at,
+      c.figure_word-5.ensures.room,
     )
 
 pub returns : goal.returns
@@ -170,12 +170,12 @@ returns c =
     line_held _ _ first words before
     (c.bytes-2.ensures.holds (first ++ spaced words) before
     (words_held _ _ first words before
-    (c.figure-word-5.ensures.holds text-5 before
-    (c.figure-word-4.ensures.holds text-4 before
-    (c.figure-word-3.ensures.holds text-3 before
-    (c.denomination-word.ensures.holds text-2 before
-    (c.figure-word-2.ensures.holds text-1 before
-    (c.figure-word.ensures.holds first before
+    (c.figure_word-5.ensures.holds text-5 before
+    (c.figure_word-4.ensures.holds text-4 before
+    (c.figure_word-3.ensures.holds text-3 before
+    (c.denomination_word.ensures.holds text-2 before
+    (c.figure_word-2.ensures.holds text-1 before
+    (c.figure_word.ensures.holds first before
     (c.bytes.ensures.holds [] before (start.at, start.buffer))))))))))
     in
     let filled : c.bytes-2.new.self.buffer.now ≡ over (line_of first words) before = held.1 in

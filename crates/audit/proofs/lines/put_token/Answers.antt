@@ -6,8 +6,8 @@ use Rattle.denom.specs.Views.{symbol_of}
 use Rattle.audit.proofs.Written.{line_held}
 use Rattle.audit.proofs.lines.put_token.Goals as goal
 
-pub figure-word-requires : goal.figure-word-requires
-figure-word-requires c =
+pub figure_word-requires : goal.figure_word-requires
+figure_word-requires c =
     let start = c.over-line.ensures in
     omega (
       arith,
@@ -30,15 +30,15 @@ word-requires c =
       c.bytes.ensures.at,
       c.bytes.ensures.room,
       length_figure_64 c.args.chain c.ranges.chain.fits,
-      c.figure-word.ensures.at,
-      c.figure-word.ensures.room,
-      ap length c.as-slice.ensures,
+      c.figure_word.ensures.at,
+      c.figure_word.ensures.room,
+      ap length c.as_slice.ensures,
       length-take c.args.symbol.now.len c.args.symbol.now.bytes,
       c.args.symbol.now.few,
     )
 
-pub figure-word-requires-2 : goal.figure-word-requires-2
-figure-word-requires-2 c =
+pub figure_word-requires-2 : goal.figure_word-requires-2
+figure_word-requires-2 c =
     let start = c.over-line.ensures in
     omega (
       arith,
@@ -48,9 +48,9 @@ figure-word-requires-2 c =
       c.bytes.ensures.at,
       c.bytes.ensures.room,
       length_figure_64 c.args.chain c.ranges.chain.fits,
-      c.figure-word.ensures.at,
-      c.figure-word.ensures.room,
-      ap length c.as-slice.ensures,
+      c.figure_word.ensures.at,
+      c.figure_word.ensures.room,
+      ap length c.as_slice.ensures,
       length-take c.args.symbol.now.len c.args.symbol.now.bytes,
       c.args.symbol.now.few,
       c.word.ensures.at,
@@ -58,8 +58,8 @@ figure-word-requires-2 c =
       length_figure_64 c.args.supply c.ranges.supply.fits,
     )
 
-pub figure-word-requires-3 : goal.figure-word-requires-3
-figure-word-requires-3 c =
+pub figure_word-requires-3 : goal.figure_word-requires-3
+figure_word-requires-3 c =
     let start = c.over-line.ensures in
     omega (
       arith,
@@ -69,21 +69,21 @@ figure-word-requires-3 c =
       c.bytes.ensures.at,
       c.bytes.ensures.room,
       length_figure_64 c.args.chain c.ranges.chain.fits,
-      c.figure-word.ensures.at,
-      c.figure-word.ensures.room,
-      ap length c.as-slice.ensures,
+      c.figure_word.ensures.at,
+      c.figure_word.ensures.room,
+      ap length c.as_slice.ensures,
       length-take c.args.symbol.now.len c.args.symbol.now.bytes,
       c.args.symbol.now.few,
       c.word.ensures.at,
       c.word.ensures.room,
       length_figure_64 c.args.supply c.ranges.supply.fits,
-      c.figure-word-2.ensures.at,
-      c.figure-word-2.ensures.room,
+      c.figure_word-2.ensures.at,
+      c.figure_word-2.ensures.room,
       length_figure_le 24 c.args.users (omega arith) c.requires.users,
     )
 
-pub figure-word-requires-4 : goal.figure-word-requires-4
-figure-word-requires-4 c =
+pub figure_word-requires-4 : goal.figure_word-requires-4
+figure_word-requires-4 c =
     let start = c.over-line.ensures in
     omega (
       arith,
@@ -93,19 +93,19 @@ figure-word-requires-4 c =
       c.bytes.ensures.at,
       c.bytes.ensures.room,
       length_figure_64 c.args.chain c.ranges.chain.fits,
-      c.figure-word.ensures.at,
-      c.figure-word.ensures.room,
-      ap length c.as-slice.ensures,
+      c.figure_word.ensures.at,
+      c.figure_word.ensures.room,
+      ap length c.as_slice.ensures,
       length-take c.args.symbol.now.len c.args.symbol.now.bytes,
       c.args.symbol.now.few,
       c.word.ensures.at,
       c.word.ensures.room,
       length_figure_64 c.args.supply c.ranges.supply.fits,
-      c.figure-word-2.ensures.at,
-      c.figure-word-2.ensures.room,
+      c.figure_word-2.ensures.at,
+      c.figure_word-2.ensures.room,
       length_figure_le 24 c.args.users (omega arith) c.requires.users,
-      c.figure-word-3.ensures.at,
-      c.figure-word-3.ensures.room,
+      c.figure_word-3.ensures.at,
+      c.figure_word-3.ensures.room,
       length_figure_le 24 c.args.carried (omega arith) c.requires.carried,
     )
 
@@ -120,22 +120,22 @@ bytes-requires-2 c =
       c.bytes.ensures.at,
       c.bytes.ensures.room,
       length_figure_64 c.args.chain c.ranges.chain.fits,
-      c.figure-word.ensures.at,
-      c.figure-word.ensures.room,
-      ap length c.as-slice.ensures,
+      c.figure_word.ensures.at,
+      c.figure_word.ensures.room,
+      ap length c.as_slice.ensures,
       length-take c.args.symbol.now.len c.args.symbol.now.bytes,
       c.args.symbol.now.few,
       c.word.ensures.at,
       c.word.ensures.room,
       length_figure_64 c.args.supply c.ranges.supply.fits,
-      c.figure-word-2.ensures.at,
-      c.figure-word-2.ensures.room,
+      c.figure_word-2.ensures.at,
+      c.figure_word-2.ensures.room,
       length_figure_le 24 c.args.users (omega arith) c.requires.users,
-      c.figure-word-3.ensures.at,
-      c.figure-word-3.ensures.room,
+      c.figure_word-3.ensures.at,
+      c.figure_word-3.ensures.room,
       length_figure_le 24 c.args.carried (omega arith) c.requires.carried,
-      c.figure-word-4.ensures.at,
-      c.figure-word-4.ensures.room,
+      c.figure_word-4.ensures.at,
+      c.figure_word-4.ensures.room,
     )
 
 pub returns : goal.returns
@@ -144,22 +144,22 @@ returns c =
     let before = c.args.buffer.now in
     let first = codes "token" in
     let text-1 = first ++ (32 ∷ figure c.args.chain) in
-    let text-2 = text-1 ++ (32 ∷ c.as-slice.result.now) in
+    let text-2 = text-1 ++ (32 ∷ c.as_slice.result.now) in
     let text-3 = text-2 ++ (32 ∷ figure c.args.supply) in
     let text-4 = text-3 ++ (32 ∷ figure c.args.users) in
-    let words = figure c.args.chain ∷ c.as-slice.result.now ∷ figure c.args.supply ∷ figure c.args.users ∷ figure c.args.carried ∷ [] in
+    let words = figure c.args.chain ∷ c.as_slice.result.now ∷ figure c.args.supply ∷ figure c.args.users ∷ figure c.args.carried ∷ [] in
     let held =
     line_held _ _ first words before
     (c.bytes-2.ensures.holds (first ++ spaced words) before
     (words_held _ _ first words before
-    (c.figure-word-4.ensures.holds text-4 before
-    (c.figure-word-3.ensures.holds text-3 before
-    (c.figure-word-2.ensures.holds text-2 before
+    (c.figure_word-4.ensures.holds text-4 before
+    (c.figure_word-3.ensures.holds text-3 before
+    (c.figure_word-2.ensures.holds text-2 before
     (c.word.ensures.holds text-1 before
-    (c.figure-word.ensures.holds first before
+    (c.figure_word.ensures.holds first before
     (c.bytes.ensures.holds [] before (start.at, start.buffer)))))))))
     in
     let P : List ℕ → Type 0 = λ s. Holds c.bytes-2.new.self.at c.bytes-2.new.self.buffer.now (line_of first (figure c.args.chain ∷ s ∷ figure c.args.supply ∷ figure c.args.users ∷ figure c.args.carried ∷ [])) before in
-    let spelt : P (symbol_of c.args.symbol.now) = subst P c.as-slice.ensures held in
+    let spelt : P (symbol_of c.args.symbol.now) = subst P c.as_slice.ensures held in
     let filled : c.bytes-2.new.self.buffer.now ≡ over (line_of first (figure c.args.chain ∷ symbol_of c.args.symbol.now ∷ figure c.args.supply ∷ figure c.args.users ∷ figure c.args.carried ∷ [])) before = spelt.1 in
     record { length = c.len.ensures ∙ spelt.0; buffer = search rules }

@@ -8,22 +8,22 @@ use Rattle.audit.proofs.Gathered.{slot_handed}
 use Rattle.audit.proofs.Written.{has_one}
 use Rattle.audit.proofs.report.put_slot.Goals as goal
 
-pub slice-bounds-put-end : goal.slice-bounds-put-end
-slice-bounds-put-end g c =
+pub slice_bounds-put-end : goal.slice_bounds-put-end
+slice_bounds-put-end g c =
     let w = view g.L.Ledger.meaning g.F.Book.meaning g.S.Book.meaning c.args.world.now in
     let told = c.in-Some.ensures in
-    let one = has_one (has_line w c.slot-of-slot.result) c.in-Some.len (line_in w c.slot-of-slot.result) c.args.buffer.now _ told.answer told.buffer in
+    let one = has_one (has_line w c.slot_of-slot.result) c.in-Some.len (line_in w c.slot_of-slot.result) c.args.buffer.now _ told.answer told.buffer in
     laid_fits c.in-Some.len _ _ _ one.1 one.2
 
 pub returns-in-Some : goal.returns-in-Some
 returns-in-Some g c =
     let w = view g.L.Ledger.meaning g.F.Book.meaning g.S.Book.meaning c.args.world.now in
-    let slot = c.slot-of-slot.result in
+    let slot = c.slot_of-slot.result in
     let told = c.in-Some.ensures in
     let line = line_in w slot in
     let whole : c.in-Some.len - 0 ≡ c.in-Some.len = omega arith in
     let one = has_one (has_line w slot) c.in-Some.len line c.args.buffer.now _ told.answer told.buffer in
-    let text = ap (λ (n : ℕ). take n c.write-slot.new.buffer) whole ∙ laid_front c.in-Some.len line c.args.buffer.now _ one.1 one.2 in
+    let text = ap (λ (n : ℕ). take n c.write_slot.new.buffer) whole ∙ laid_front c.in-Some.len line c.args.buffer.now _ one.1 one.2 in
     IfOk-weaker c.put.result _ _
-    (λ _ took. slot_handed w (few_denoms c.args.world.now.tables.denominations) g.O.Sink.takes _ _ c.args.place slot _ c.slot-of-slot.ensures one.0 text took)
+    (λ _ took. slot_handed w (few_denoms c.args.world.now.tables.denominations) g.O.Sink.takes _ _ c.args.place slot _ c.slot_of-slot.ensures one.0 text took)
     c.put.ensures

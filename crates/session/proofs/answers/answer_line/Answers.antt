@@ -8,11 +8,11 @@ use Rattle.session.proofs.answers.answer_line.Goals as goal
 pub returns-in-Ok : goal.returns-in-Ok
 returns-in-Ok g c =
     let w = view g.L.Ledger.meaning g.F.Book.meaning g.S.Book.meaning c.args.world.now in
-    let v = view g.L.Ledger.meaning g.F.Book.meaning g.S.Book.meaning c.carry-out.new.world in
+    let v = view g.L.Ledger.meaning g.F.Book.meaning g.S.Book.meaning c.carry_out.new.world in
     let told = c.in-Ok.ensures in
     let lines = said_printed w v c.args.number (parsed c.args.line.now) c.in-Ok.said told.answer told.audit told.after in
     record {
-      prints = IfOk-weaker c.print-said.result _ _ (λ _ handed. handed_same g.O.Sink.takes _ _ _ _ lines handed) c.print-said.ensures;
+      prints = IfOk-weaker c.print_said.result _ _ (λ _ handed. handed_same g.O.Sink.takes _ _ _ _ lines handed) c.print_said.ensures;
       after = told.after;
       reached = told.reached;
       conserved = told.conserved;
@@ -24,7 +24,7 @@ returns-in-Err g c =
     let told = c.in-Err.ensures in
     let lines = refusal_printed w c.args.number (fault_number c.in-Err.fault) (parsed c.args.line.now) told.answer told.audit in
     record {
-      prints = IfOk-weaker c.print-answer.result _ _ (λ _ handed. handed_same g.O.Sink.takes _ _ _ _ lines handed) c.print-answer.ensures;
+      prints = IfOk-weaker c.print_answer.result _ _ (λ _ handed. handed_same g.O.Sink.takes _ _ _ _ lines handed) c.print_answer.ensures;
       after = told.after;
       reached = told.reached;
       conserved = told.conserved;

@@ -20,12 +20,12 @@ loop-number-init g c =
 pub loop-number-preserved : goal.loop-number-preserved
 loop-number-preserved g c =
     let w = view g.L.Ledger.meaning g.F.Book.meaning g.S.Book.meaning c.loop-number.world in
-    let v = view g.L.Ledger.meaning g.F.Book.meaning g.S.Book.meaning c.answer-line.new.world in
+    let v = view g.L.Ledger.meaning g.F.Book.meaning g.S.Book.meaning c.answer_line.new.world in
     let script = c.loop-number.script in
-    let then = c.next-line.new.self in
+    let then = c.next_line.new.self in
     let inv = c.loop-number.invariant in
     let told = c.in-Some.ensures in
-    let done = c.in-ok-answer-line.ensures in
+    let done = c.in_ok-answer_line.ensures in
     let line = c.in-Some.line.now in
     let rest = drop script.lines.at script.lines.text.now in
     let others = drop then.lines.at then.lines.text.now in
@@ -39,10 +39,10 @@ loop-number-preserved g c =
       printing_more g.O.Sink.takes _ _ _ w v (script.read + 1) (then.read + 1) line (pieces 10 rest) (pieces 10 others) _ cut next done.after inv.3 printed,
     )
 
-pub returns-in-err-answer-line : goal.returns-in-err-answer-line
-returns-in-err-answer-line g c =
+pub returns-in_err-answer_line : goal.returns-in_err-answer_line
+returns-in_err-answer_line g c =
     let inv = c.loop-number.invariant in
-    let done = c.in-err-answer-line.ensures in
+    let done = c.in_err-answer_line.ensures in
     record {
       prints = search rules;
       after = search rules;
@@ -55,7 +55,7 @@ returns g c =
     let w = view g.L.Ledger.meaning g.F.Book.meaning g.S.Book.meaning c.loop-number.world in
     let inv = c.loop-number.invariant in
     let rest = drop c.loop-number.script.lines.at c.loop-number.script.lines.text.now in
-    let none : pieces 10 rest ≡ [] = ap (λ end. pieces end rest) (sym inv.1) ∙ c.in-default.ensures.line.0 in
+    let none : pieces 10 rest ≡ [] = ap (λ end. pieces end rest) (sym inv.1) ∙ c.in_default.ensures.line.0 in
     record {
       prints = printing_done g.O.Sink.takes _ _ w _ (pieces 10 rest) _ none inv.3;
       after = sym (ap (lines_leave w) none) ∙ inv.2;

@@ -5,8 +5,8 @@ use Rattle.session.proofs.carry.carry_out.Goals as goal
 pub returns : goal.returns
 returns g c =
     let before = view g.L.Ledger.meaning g.F.Book.meaning g.S.Book.meaning c.args.world.now in
-    let after = view g.L.Ledger.meaning g.F.Book.meaning g.S.Book.meaning c.carry-line.new.world in
-    let told = c.carry-line.ensures in
+    let after = view g.L.Ledger.meaning g.F.Book.meaning g.S.Book.meaning c.carry_line.new.world in
+    let told = c.carry_line.ensures in
     record {
       answer = told.answer;
       audit = told.audit;
