@@ -57,9 +57,9 @@ mod tests {
         number: u8,
     ) -> Result<(), Fail> {
         match write_line(world, n, buffer) {
-            Ok(_) => Err(Fail::new("a line was written")),
-            Err(fault) => check(fault.number() == number),
-        }?;
+            Ok(_) => return Err(Fail::new("a line was written")),
+            Err(fault) => assert!(rt; fault.number() == number),
+        }
         for byte in buffer.iter() {
             assert!(rt; *byte == 46);
         }
