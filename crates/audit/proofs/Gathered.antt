@@ -1,11 +1,11 @@
 -- The lines of an audit, gathered slot by slot.
-use Rattle.std.proofs.Common.{◌≡◌, ℕ, zero, suc, ◌+◌, ◌-◌, ◌*◌, ◌/◌, ◌%◌, ◌<◌, ◌≤◌, Bool, true, false, cond, not, ◌&&◌, eqb, ltb, leb, List, [], ◌∷◌, ◌++◌, map, length, get_or, sym, refl, ap, ◌∙◌, subst, ap₂, append_assoc, append-nil, add-zero, mul-zero, zero-add, mul-suc, arith, length-append}
+use Rattle.std.proofs.Common.{◌≡◌, ℕ, zero, suc, ◌+◌, ◌-◌, ◌*◌, ◌/◌, ◌%◌, ◌<◌, ◌≤◌, Bool, true, false, cond, not, ◌&&◌, eqb, ltb, List, [], ◌∷◌, ◌++◌, map, length, get_or, sym, refl, ap, ◌∙◌, subst, ap₂, append_assoc, append-nil, add-zero, mul-zero, zero-add, mul-suc, arith, length-append}
 use Rattle.std.proofs.lemmas.List.{get_or_at}
 use Rattle.std.proofs.lemmas.Bool.{lt-ltb, le-ltb, le-leb, lt-leb, ne_eqb}
-use Rattle.protocol.specs.Audit.{escrow_held, count_line, token_line, escrow_line, gathered, end_lines, escrow_lines, audit_lines}
+use Rattle.protocol.specs.Audit.{escrow_held, count_line, token_line, escrow_line, gathered, end_lines, audit_lines}
 use Rattle.protocol.specs.World.{World, lane, from_end, numbers_from}
 use Rattle.audit.specs.declared.slots.Slot.{Slot}
-use Rattle.audit.specs.declared.slots.Slot.TheVariants.{Counts, Token, Escrow}
+use Rattle.audit.specs.declared.slots.Slot.TheVariants.{Escrow}
 use Rattle.figures.specs.Sinks.{Handed}
 use Rattle.figures.proofs.Taken.{handed_as, handed_on}
 use Rattle.audit.specs.Slots.{no_token, slot_at, has_line, line_in, lines_in, at_place, slots, Nth}

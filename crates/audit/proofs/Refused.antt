@@ -1,5 +1,5 @@
 -- What is answered to a number of a line, by the room of the buffer and by how many lines there are.
-use Rattle.std.proofs.Common.{◌≡◌, ℕ, ◌<◌, ◌≤◌, Bool, true, false, length, Ok, Err, refl, ap, ◌∙◌}
+use Rattle.std.proofs.Common.{◌≡◌, ℕ, ◌<◌, ◌≤◌, length, Ok, Err, refl, ap}
 use Rattle.std.proofs.lemmas.Bool.{lt-ltb, le-ltb, le-leb, lt-leb}
 use Rattle.protocol.specs.Audit.{audit_lines, line_refusals}
 use Rattle.protocol.specs.Refusals.{answer_unless}

@@ -1,5 +1,5 @@
 -- What the adding-up routine gives over packets and registers, in the words of the model.
-use Rattle.std.proofs.Common.{◌≡◌, ℕ, ◌+◌, ◌<◌, ◌≤◌, Bool, true, false, ◌&&◌, ltb, List, [], ◌∷◌, map, length, get_or, take, Some, None, Option, sym, refl, ap, ◌∙◌, add-one, arith, length-take, lt-ltb}
+use Rattle.std.proofs.Common.{◌≡◌, ℕ, ◌+◌, ◌<◌, ◌≤◌, Bool, true, false, ◌&&◌, ltb, List, [], ◌∷◌, map, length, get_or, take, Some, None, sym, refl, ap, ◌∙◌, add-one, arith, length-take, lt-ltb}
 use lib.ListN.{length-map}
 use Rattle.sums.specs.Sums.{sum_below, total, gate, counted, counted_from}
 use Rattle.sums.proofs.Below.{sum_same}

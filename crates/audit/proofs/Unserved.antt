@@ -1,5 +1,5 @@
 -- A question about a total that a ledger refuses is about a chain that it does not serve, where there is nothing.
-use Rattle.std.proofs.Common.{◌≡◌, ℕ, ◌<◌, ◌≤◌, Bool, true, false, leb, Ok, Err, Result, sym, ◌∙◌, ⊎_elim, arith, leb-true}
+use Rattle.std.proofs.Common.{◌≡◌, ℕ, ◌<◌, ◌≤◌, true, false, leb, Ok, Err, sym, ◌∙◌, ⊎_elim, arith, leb-true}
 use Rattle.std.proofs.lemmas.Bool.{cases_Bool, lt-leb}
 use Rattle.sums.specs.Sums.{sum_below}
 use Rattle.sums.proofs.Below.{sum_same, sum_zero}

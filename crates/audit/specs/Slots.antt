@@ -1,11 +1,11 @@
 -- Where lines of an audit may stand, one after another: slot 0 has the counts; then each token has a slot; then each lane, which
 -- stands for the end that it leads from, has 32 of them, one for each denomination number. A slot of an escrow may be empty.
-use Rattle.std.specs.Prelude.{◌≡◌, ℕ, ◌+◌, ◌-◌, ◌*◌, ◌/◌, ◌%◌, ◌<◌, Bool, true, false, cond, not, ◌&&◌, List, [], ◌∷◌, length, ◌==◌, nat_le, nat_lt, slice_index_or}
+use Rattle.std.specs.Prelude.{◌≡◌, ℕ, ◌+◌, ◌-◌, ◌*◌, ◌/◌, ◌%◌, ◌<◌, Bool, true, cond, not, ◌&&◌, List, [], ◌∷◌, length, ◌==◌, nat_le, nat_lt, slice_index_or}
 use Rattle.denom.specs.Denomination as denom
 use Rattle.denom.specs.Views.{denom_view}
 use Rattle.protocol.specs.Audit.{denom_at, escrow_held, count_line, token_line, escrow_line, audit_lines, audit_line}
 use Rattle.protocol.specs.Calls.{token_at}
-use Rattle.protocol.specs.World.{World, lane, back, from_end, to_end}
+use Rattle.protocol.specs.World.{World, lane, from_end, to_end}
 use Rattle.tables.specs.View.{end_view}
 use Rattle.audit.specs.declared.slots.Slot.{Slot}
 use Rattle.audit.specs.declared.slots.Slot.TheVariants.{Counts, Token, Escrow}

@@ -1,4 +1,6 @@
 // The audit of a world: its figures, each a total of its own, and its lines as text.
+#![tactic(auto)]
+
 mod balances;
 mod entries;
 mod figures;

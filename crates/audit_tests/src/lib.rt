@@ -1,3 +1,5 @@
+#![tactic(auto)]
+
 // Lines of an audit, one by one: what they are, and what is refused and leaves the buffer as it was.
 #[cfg(test)]
 mod tests {

@@ -1,3 +1,5 @@
+#![tactic(auto)]
+
 // Ledgers and books at work: one table of operations on every ledger, notes that have to be joined, the largest supply, bars,
 // and both books.
 #[cfg(test)]

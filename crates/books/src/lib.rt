@@ -1,4 +1,6 @@
 // Books of receipt: what every book does, and the free and the strict one.
+#![tactic(auto)]
+
 mod book;
 mod free;
 mod marks;

@@ -1,4 +1,6 @@
 // Commands with their arguments, how a line is read as one, and the line that answers it.
+#![tactic(auto)]
+
 mod answers;
 mod commands;
 mod parse;

@@ -1,4 +1,6 @@
 // Reads a script from standard input and answers it line by line on standard output.
+#![tactic(auto)]
+
 use account_bank::AccountBank;
 use bars::Barring;
 use books::{FreeBook, StrictBook};

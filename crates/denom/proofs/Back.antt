@@ -1,12 +1,12 @@
 -- A trace is read from just the text that it is written as.
-use Rattle.std.proofs.Common.{◌≡◌, ℕ, zero, suc, ◌+◌, ◌-◌, ◌*◌, ◌<◌, ◌≤◌, Bool, true, false, cond, ◌&&◌, eqb, ltb, leb, List, [], ◌∷◌, ◌++◌, length, get_or, take, drop, IfSome, IfOk, Some, None, Ok, Err, Option, Result, sym, refl, ap, ◌∙◌, subst, ⊎_elim, append_assoc, arith, Bor, ltb-true, lt-ltb, eqb-true, le-leb, leb-true}
+use Rattle.std.proofs.Common.{◌≡◌, ℕ, zero, suc, ◌+◌, ◌-◌, ◌*◌, ◌<◌, ◌≤◌, Bool, true, false, cond, ◌&&◌, eqb, ltb, leb, List, [], ◌∷◌, ◌++◌, length, get_or, take, drop, IfSome, IfOk, Some, None, Ok, Err, Option, Result, sym, refl, ap, ◌∙◌, subst, ⊎_elim, arith, Bor, ltb-true, lt-ltb, eqb-true, le-leb, leb-true}
 use Rattle.std.specs.Result.{result_map_both}
 use Rattle.std.proofs.lemmas.List.{drop_more, drop-drop, drop-set, length-set, get_or_past}
 use Rattle.std.proofs.str.Laws.{order}
 use Rattle.denom.specs.declared.types.TextFault.{TextFault}
 use Rattle.denom.specs.declared.types.TextFault.TheVariants.{NotADenomination}
 use Rattle.denom.specs.Denomination.{Denom, hopless, behind}
-use Rattle.denom.specs.Text.{hop_mark, hop_text, trace_text, denom_text, begins, hop_digit, hop_of, letter, letter_or_digit, each, is_symbol, is_denom, only_symbol, behind_hop, read_on, read_from, denom_of}
+use Rattle.denom.specs.Text.{hop_mark, hop_text, trace_text, denom_text, begins, hop_digit, hop_of, letter, letter_or_digit, each, is_symbol, only_symbol, behind_hop, read_on, read_from, denom_of}
 use Rattle.denom.specs.Views.{symbol_answer, denom_answer, put_hops, hops_after, count_after}
 use Rattle.denom.specs.Laws.{DenomsReadBack, DenomsWriteBack}
 use Rattle.denom.specs.Steps.{both, symbol_here}

@@ -1,7 +1,6 @@
 -- What keeps hops and symbols within their bounds.
-use Rattle.std.proofs.Common.{◌≡◌, ℕ, zero, suc, ◌+◌, ◌<◌, ◌≤◌, Bool, true, false, ◌&&◌, ltb, leb, ◌≢◌, List, [], ◌∷◌, ◌++◌, length, get_or, take, drop, set, sym, refl, ap, ◌∙◌, ⊎_elim, arith, get_or-set_other, get_or-set_same, lt-ltb, leb-true}
+use Rattle.std.proofs.Common.{◌≡◌, ℕ, zero, suc, ◌<◌, ◌≤◌, true, ◌&&◌, ltb, leb, ◌≢◌, List, [], ◌∷◌, length, get_or, take, drop, set, refl, ⊎_elim, arith, get_or-set_other, get_or-set_same, lt-ltb, leb-true}
 use Rattle.std.proofs.lemmas.List.{take_at, get_or_past, length-set}
-use Rattle.std.proofs.lemmas.Bool.Decides.{nat_tests}
 use Rattle.std.proofs.str.Laws.{order}
 use Rattle.std.proofs.lemmas.Bool.{cases_eq}
 use Rattle.figures.specs.Figures.{over}

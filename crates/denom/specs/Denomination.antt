@@ -1,6 +1,6 @@
 -- Denominations and tokens. A denomination is a trace of hops, each a channel of the chain that it came in by, and a symbol; a
 -- token is the chain that issued it and its symbol.
-use Rattle.std.specs.Prelude.{ℕ, Bool, true, false, ◌&&◌, List, [], ◌∷◌, ◌==◌}
+use Rattle.std.specs.Prelude.{ℕ, Bool, false, ◌&&◌, List, [], ◌∷◌, ◌==◌}
 use Rattle.std.specs.Str.{bytes_eq}
 
 -- the hops, the latest first, and the symbol's bytes

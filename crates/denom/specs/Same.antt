@@ -1,6 +1,6 @@
 -- Sameness of denominations and of tokens is equality of what they stand for.
-use Rattle.std.specs.Prelude.{◌≡◌, ℕ, Bool, true, false, ◌&&◌, List, ◌==◌, refl}
-use Rattle.std.proofs.Common.{sym, ap, ◌∙◌, eqb-true, eq-eqb}
+use Rattle.std.specs.Prelude.{◌≡◌, ℕ, true, List, ◌==◌}
+use Rattle.std.proofs.Common.{ap, eqb-true, eq-eqb}
 use Rattle.std.proofs.lemmas.Slice.Eq.{bytes_eq-Decides}
 use Rattle.denom.specs.Denomination.{Denom, Token, same_list, same_denom, same_token}
 use Rattle.denom.specs.Steps.{both}

@@ -1,5 +1,5 @@
 -- Denominations as text: for each hop `transfer/channel-`, a digit 0 to 7 and `/`, the first hop first, and then the symbol.
-use Rattle.std.specs.Prelude.{◌≡◌, ℕ, zero, suc, ◌+◌, ◌-◌, ◌*◌, Bool, true, false, cond, ◌&&◌, ◌||◌, List, [], ◌∷◌, ◌++◌, length, drop, Some, None, codes, Option, ◌==◌, nat_le, nat_lt, slice_index}
+use Rattle.std.specs.Prelude.{ℕ, zero, suc, ◌+◌, ◌-◌, Bool, true, false, cond, ◌&&◌, ◌||◌, List, [], ◌∷◌, ◌++◌, length, drop, Some, None, codes, Option, ◌==◌, nat_le, nat_lt, slice_index}
 use Rattle.denom.specs.Denomination.{Denom, hopless, behind}
 
 -- a to z

@@ -5,7 +5,7 @@ use Rattle.denom.specs.declared.types.Symbol.{Symbol}
 use Rattle.denom.specs.declared.types.Denomination.{Denomination}
 use Rattle.denom.specs.declared.types.TokenId.{TokenId}
 use Rattle.denom.specs.declared.types.TextFault.{TextFault}
-use Rattle.denom.specs.declared.types.TextFault.TheVariants.{NotADenomination, NotASymbol}
+use Rattle.denom.specs.declared.types.TextFault.TheVariants.{NotADenomination}
 use Rattle.denom.specs.Denomination.{Denom, Token}
 
 -- the hops of a record

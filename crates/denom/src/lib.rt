@@ -1,4 +1,6 @@
 // Symbols, hops and denominations, and the texts that stand for them.
+#![tactic(auto)]
+
 mod keys;
 mod reader;
 mod traces;

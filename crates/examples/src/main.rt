@@ -1,4 +1,6 @@
 // Runs each example on a world of its own, and says whether it prints what is expected.
+#![tactic(auto)]
+
 use account_bank::AccountBank;
 use bars::Barring;
 use books::{FreeBook, StrictBook};

@@ -1,4 +1,6 @@
 // Numbers as text, and lines written piece by piece into a buffer of the caller's.
+#![tactic(auto)]
+
 mod line;
 mod numbers;
 mod sink;

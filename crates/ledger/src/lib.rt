@@ -1,4 +1,6 @@
 // What every ledger does: a trait whose contracts say each answer, and what the ledger means afterwards, by its meaning before.
+#![tactic(auto)]
+
 mod checks;
 
 ghost use Rattle.std.specs.Prelude.{◌≡◌, ℕ, ◌<◌, ◌≤◌, true, false};

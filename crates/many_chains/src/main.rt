@@ -1,4 +1,6 @@
 // Runs a script over four chains, whose links have different channel numbers at their two ends.
+#![tactic(auto)]
+
 use account_bank::AccountBank;
 use bars::Barring;
 use books::{FreeBook, StrictBook};

@@ -1,4 +1,6 @@
 // The note bank: one chain's balances as notes, each in a place of its own.
+#![tactic(auto)]
+
 mod bank;
 mod pairs;
 mod place;

@@ -8,7 +8,7 @@ use Rattle.protocol.specs.House.{chains_most, users, escrow_account}
 use Rattle.protocol.specs.Ledger.{Balances, credited, debited, moved, Ledger}
 use Rattle.protocol.specs.Book.{is_one, Book}
 use Rattle.protocol.specs.World.{End, Link, Packet, World, back, end_at, lane_out, lowest_unused, number, mark_of, is_open, home_of, home_by, held, open_packets, of_token, lane, no_link, mark_at, near, far}
-use Rattle.protocol.specs.Calls.{Answer, done, says, home_is, Call, open_link, issue, retire, pay, send, receive, ack, timeout, tick, bar, unbar, home, refusals, outcome, step, with_bal, with_links, recorded, ended, mark_written, no_packet, packet_place, packet_at, arrival_mark, refunded, refund_refused, sent_packet, next_sequence}
+use Rattle.protocol.specs.Calls.{Answer, done, says, Call, open_link, issue, retire, pay, send, receive, ack, timeout, tick, bar, unbar, home, refusals, outcome, step, with_bal, with_links, recorded, ended, mark_written, no_packet, packet_place, packet_at, arrival_mark, refunded, refund_refused, sent_packet, next_sequence}
 use Rattle.protocol.specs.Laws.{there_is, world, accepted, issues, retires, retired, issued}
 use Rattle.protocol.proofs.Sums.{total_same}
 use Rattle.protocol.proofs.Measures.{credit_moves, debit_moves, move_moves}

@@ -1,6 +1,6 @@
 -- The audit: its lines as text, each with its LF. Line 0 has the counts; then there is a line for each token, in the order of the
 -- register; then, by link, end and denomination number, one wherever escrow is not 0.
-use Rattle.std.specs.Prelude.{ℕ, ◌+◌, Bool, cond, List, [], ◌∷◌, ◌++◌, map, length, codes, ◌==◌, nat_le, nat_lt, slice_index_or}
+use Rattle.std.specs.Prelude.{ℕ, ◌+◌, cond, List, [], ◌∷◌, ◌++◌, map, length, codes, ◌==◌, nat_le, nat_lt, slice_index_or}
 use Rattle.denom.specs.Denomination.{Denom, Token, hopless, behind}
 use Rattle.denom.specs.Text.{denom_text}
 use Rattle.figures.specs.Figures.{figure, line_of}

@@ -1,7 +1,6 @@
 -- What a book of receipt means, and how a mark is taken into it. A free book admits the unmarked sequences, a strict one only
 -- the unmarked one whose lower ones are all marked.
 use Rattle.std.specs.Prelude.{ℕ, zero, suc, ◌-◌, Bool, true, false, cond, not, ◌&&◌, ◌||◌, List, [], ◌∷◌, is_some, Some, None, Option, ◌==◌, nat_le, nat_lt}
-use Rattle.std.specs.Option.{option_map}
 use Rattle.protocol.specs.declared.marks.Mark.{Mark}
 use Rattle.protocol.specs.declared.marks.Mark.TheVariants.{Good, TooManyHops, RegisterFull, LedgerRefused}
 use Rattle.protocol.specs.House.{lanes_most, packets_most}

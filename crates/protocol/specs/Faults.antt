@@ -1,5 +1,5 @@
 -- The number of each fault, and the layer that answers for a number.
-use Rattle.std.specs.Prelude.{ℕ, Bool, true, false, cond, ◌&&◌, Ok, Err, Result, nat_le}
+use Rattle.std.specs.Prelude.{ℕ, Bool, cond, ◌&&◌, Ok, Err, Result, nat_le}
 use Rattle.protocol.specs.declared.faults.LedgerFault.{LedgerFault}
 use Rattle.protocol.specs.declared.faults.LedgerFault.TheVariants.{ChainNotServed, NoSuchAccount, ZeroAmount, NoSuchDenomination, ServesNoBars, AccountBarred, BalanceTooSmall, SupplyTooLarge}
 use Rattle.protocol.specs.declared.faults.BookFault.{BookFault}

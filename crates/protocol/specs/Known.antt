@@ -3,7 +3,6 @@ use Rattle.std.specs.Prelude.{◌≡◌, ℕ, Bool, true, false, List, [], ◌�
 use Rattle.denom.specs.Denomination.{Denom}
 use Rattle.denom.specs.Text.{denom_text}
 use Rattle.protocol.specs.Ledger.{Ledger}
-use Rattle.protocol.specs.Book.{Book}
 use Rattle.protocol.specs.World.{World, made, number}
 use Rattle.protocol.specs.Calls.{Call, open_link, issue, send, receive, ack, timeout, tick, home, Answer, done, says, home_is, no, step, token_at}
 use Rattle.protocol.specs.Audit.{audit_lines}

@@ -1,5 +1,5 @@
 -- Laws of every past of a world: conservation, the supply accounted for, the house's bounds, refusals in order.
-use Rattle.std.specs.Prelude.{◌≡◌, ℕ, ◌+◌, ◌*◌, ◌<◌, ◌≤◌, Bool, true, false, not, ◌&&◌, ◌||◌, ◌≢◌, ◌↔◌, List, [], ◌∷◌, ◌++◌, length, get_or, ◌==◌, nat_eq, nat_lt, slice_index_or}
+use Rattle.std.specs.Prelude.{◌≡◌, ℕ, ◌+◌, ◌<◌, ◌≤◌, Bool, true, false, not, ◌&&◌, ◌||◌, ◌≢◌, ◌↔◌, List, [], ◌∷◌, ◌++◌, length, get_or, ◌==◌, nat_eq, nat_lt, slice_index_or}
 use Rattle.sums.specs.Sums.{gate, total}
 use Rattle.denom.specs.Denomination.{Denom, Token, same_list, hopless, behind, came_by}
 use Rattle.denom.specs.Text.{is_denom, is_symbol}

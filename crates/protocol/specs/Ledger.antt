@@ -1,5 +1,5 @@
 -- What a ledger means, its two laws, and its operations with their refusals. Every ledger that shows this meaning will do.
-use Rattle.std.specs.Prelude.{◌≡◌, ℕ, ◌+◌, ◌-◌, ◌≤◌, Bool, true, false, cond, not, ◌&&◌, ◌||◌, leb, List, [], ◌∷◌, ◌++◌, ◌==◌, nat_eq, nat_le, nat_lt}
+use Rattle.std.specs.Prelude.{◌≡◌, ℕ, ◌+◌, ◌-◌, ◌≤◌, Bool, false, cond, not, ◌&&◌, ◌||◌, leb, List, [], ◌∷◌, ◌++◌, ◌==◌, nat_eq, nat_le, nat_lt}
 use Rattle.sums.specs.Sums.{sum_below}
 use Rattle.protocol.specs.House.{most, users, accounts, denoms_most}
 use Rattle.protocol.specs.Refusals.{Refusal, ◌when◌}

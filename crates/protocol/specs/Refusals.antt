@@ -1,5 +1,5 @@
 -- Refusals in the order of checking, and the answers that they make.
-use Rattle.std.specs.Prelude.{ℕ, Bool, true, false, cond, List, [], ◌∷◌, Some, None, Ok, Err, Option, Result}
+use Rattle.std.specs.Prelude.{ℕ, Bool, cond, List, [], ◌∷◌, Some, None, Ok, Err, Option, Result}
 
 infix 90 ◌when◌
 -- a refusal: its number, and whether it applies

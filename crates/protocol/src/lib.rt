@@ -1,4 +1,6 @@
 // The definitions of the whole model (specs/), its laws, and the faults, marks and counts that the layers share.
+#![tactic(auto)]
+
 mod faults;
 mod house;
 mod laws;

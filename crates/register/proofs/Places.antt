@@ -1,6 +1,5 @@
 -- Where the first row that passes a test stands.
-use Rattle.std.proofs.Common.{◌≡◌, ℕ, zero, suc, ◌+◌, ◌<◌, ◌≤◌, Bool, true, false, cond, ltb, List, [], ◌∷◌, ◌++◌, map, length, get_or, take, drop, set, is_some, IfSome, Some, None, Option, sym, refl, ap, ◌∙◌, subst, ap₂, ⊎_elim, add-zero, arith, ltb-false, ltb-true, le-ltb, lt-ltb}
-use lib.ListN.{length-map}
+use Rattle.std.proofs.Common.{◌≡◌, ℕ, zero, suc, ◌+◌, ◌<◌, ◌≤◌, Bool, true, false, cond, ltb, List, [], ◌∷◌, ◌++◌, length, get_or, take, drop, set, is_some, IfSome, Some, None, Option, sym, refl, ap, ◌∙◌, subst, ⊎_elim, arith, ltb-false, ltb-true, le-ltb, lt-ltb}
 use Rattle.std.proofs.lemmas.List.{at_drop_more, at_drop_all, get_or_append_left, get_or_push, length_push, take_more_set}
 use Rattle.std.proofs.str.Laws.{order}
 use Rattle.register.specs.Keys.{place, found, number_of, kept, kept_count, entered, Distinct, StaysDistinct, KeepsOrder, OneNumber}

@@ -1,4 +1,6 @@
 // Distinct keys in order of arrival, kept on memory that is lent.
+#![tactic(auto)]
+
 ghost use Rattle.std.specs.Prelude.{◌≡◌, ℕ, ◌+◌, ◌<◌, ◌≤◌, Bool, true, length, take, slice_set};
 ghost use Rattle.register.specs.Keys.{number_of, kept, kept_count, kept_number, StaysDistinct, KeepsOrder, OneNumber};
 

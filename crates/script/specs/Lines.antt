@@ -1,5 +1,5 @@
 -- A script cut into lines and a line into words, and the checks that a line has to pass before it is read.
-use Rattle.std.specs.Prelude.{◌≡◌, ℕ, ◌+◌, Bool, true, false, cond, not, ◌&&◌, ◌||◌, List, [], ◌∷◌, length, Some, None, Option, ◌==◌, nat_le, nat_lt}
+use Rattle.std.specs.Prelude.{◌≡◌, ℕ, Bool, true, cond, not, ◌&&◌, List, [], ◌∷◌, length, Some, None, Option, ◌==◌, nat_le, nat_lt}
 
 -- a byte put in front of the first piece
 abbrev pub longer : ℕ → List (List ℕ) → List (List ℕ)

@@ -1,4 +1,6 @@
 // Scripts read in place: lines, words, and the checks that a line has to pass before it is read.
+#![tactic(auto)]
+
 mod lines;
 mod reader;
 

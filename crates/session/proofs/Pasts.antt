@@ -1,6 +1,5 @@
 -- Every world has its past: conservation holds of it, and a line leads on.
-use Rattle.std.proofs.Common.{◌≡◌, ℕ, ◌+◌, Bool, List, [], ◌∷◌, ◌++◌, Some, None, Ok, Err, Option, Result, sym, refl, ap, ◌∙◌, subst}
-use Rattle.denom.specs.Denomination.{Token}
+use Rattle.std.proofs.Common.{◌≡◌, ℕ, ◌+◌, Bool, List, ◌∷◌, Some, None, Ok, Err, Option, Result, sym, ap, subst}
 use Rattle.protocol.specs.Book.{Book}
 use Rattle.protocol.specs.Calls.{Call, step}
 use Rattle.protocol.specs.Laws.{world, open_after, there_is, issued, retired}

@@ -1,7 +1,7 @@
 -- What conservation says of the world that a line leaves, whatever past led to it.
-use Rattle.std.specs.Prelude.{◌≡◌, ℕ, ◌+◌, ◌<◌, ◌≤◌, Bool, false, ◌≢◌, ◌↔◌, List, ◌∷◌, ◌++◌, length}
+use Rattle.std.specs.Prelude.{◌≡◌, ℕ, ◌+◌, ◌<◌, ◌≤◌, Bool, false, List, ◌++◌, length}
 use Rattle.denom.specs.Denomination.{Denom, Token, came_by}
-use Rattle.protocol.specs.Audit.{token_supply, token_open, escrow_held, vouchers, escrow_open}
+use Rattle.protocol.specs.Audit.{token_supply, token_open}
 use Rattle.protocol.specs.Book.{Book}
 use Rattle.protocol.specs.Calls.{Call}
 use Rattle.protocol.specs.Laws.{world, open_after, there_is, Backed, issued, retired, Conserved}

@@ -1,4 +1,6 @@
 // A script carried out on a world: what each line does, answers and prints.
+#![tactic(auto)]
+
 mod answers;
 mod carry;
 mod printer;

@@ -1,4 +1,6 @@
 // The one adding-up routine: the amounts of those rows of a slice that count, whatever the rows are.
+#![tactic(auto)]
+
 ghost use Rattle.std.specs.Prelude.{◌≡◌, ℕ, ◌*◌, ◌≤◌, Bool, length};
 ghost use Rattle.sums.specs.Sums.{counted};
 ghost use Rattle.sums.specs.Columns.{amount_in, in_column};

@@ -1,4 +1,6 @@
 // What a world keeps beside its ledger and its books: registers, links, packets and heights.
+#![tactic(auto)]
+
 mod denominations;
 mod lanes;
 mod links;

@@ -1,3 +1,5 @@
+#![tactic(auto)]
+
 // The bounds of texts, on both sides of each.
 #[cfg(test)]
 mod tests {

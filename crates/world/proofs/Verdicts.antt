@@ -1,5 +1,5 @@
 -- What a call comes to, once it is known which refusal applies first, or that none does.
-use Rattle.std.proofs.Common.{◌≡◌, ℕ, Some, None, Ok, Err, Option, Result, sym, refl, ap, ◌∙◌, arith}
+use Rattle.std.proofs.Common.{◌≡◌, ℕ, Some, None, Ok, Err, Option, Result, sym, ap, ◌∙◌, arith}
 use Rattle.protocol.specs.declared.faults.LedgerFault.{LedgerFault}
 use Rattle.protocol.specs.declared.faults.WorldFault.{WorldFault}
 use Rattle.protocol.specs.Faults.{told_by, ledger_number, world_number}

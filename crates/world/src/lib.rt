@@ -1,4 +1,6 @@
 // A world over any ledger and any two books, and every call on it.
+#![tactic(auto)]
+
 mod accounts;
 mod home;
 mod questions;

@@ -1,4 +1,4 @@
-use Rattle.std.proofs.Common.{◌≡◌, sym, ◌∙◌, arith}
+use Rattle.std.proofs.Common.{sym, ◌∙◌, arith}
 use Rattle.register.proofs.Places.{number_here, passed_more, number_none}
 use Rattle.register.proofs.find_in.Goals as goal
 

@@ -1,4 +1,4 @@
-use Rattle.std.proofs.Common.{◌≡◌, ◌+◌, sym, refl, ◌∙◌, ap₂, arith}
+use Rattle.std.proofs.Common.{◌+◌, sym, refl, ◌∙◌, ap₂, arith}
 use Rattle.sums.specs.Sums.{sum_below}
 use Rattle.denom.specs.Views.{token_view}
 use Rattle.world.specs.View.{view}

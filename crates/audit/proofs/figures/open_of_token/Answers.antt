@@ -1,4 +1,4 @@
-use Rattle.std.proofs.Common.{◌≡◌, ap, ◌∙◌, arith}
+use Rattle.std.proofs.Common.{ap, ◌∙◌, arith}
 use Rattle.denom.specs.Views.{token_view}
 use Rattle.protocol.specs.World.{of_token}
 use Rattle.tables.specs.declared.types.Tables.{Tables}

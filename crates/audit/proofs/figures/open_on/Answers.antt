@@ -1,4 +1,4 @@
-use Rattle.std.proofs.Common.{◌≡◌, ap, ◌∙◌, arith}
+use Rattle.std.proofs.Common.{ap, ◌∙◌, arith}
 use Rattle.denom.specs.Views.{denom_view}
 use Rattle.protocol.specs.World.{on_lane_with}
 use Rattle.tables.specs.declared.types.Tables.{Tables}

@@ -3,7 +3,7 @@ use Rattle.register.specs.Keys.{number_of}
 use Rattle.denom.specs.Denomination.{same_denom}
 use Rattle.denom.specs.declared.types.Denomination.{Denomination}
 use Rattle.denom.specs.Views.{denom_view}
-use Rattle.protocol.specs.Ledger.{Ledger, supply}
+use Rattle.protocol.specs.Ledger.{supply}
 use Rattle.tables.specs.declared.types.Tables.{Tables}
 use Rattle.tables.specs.View.{denoms_of}
 use Rattle.world.specs.View.{view}

@@ -1,4 +1,4 @@
-use Rattle.std.proofs.Common.{◌≡◌, [], ◌∷◌, ◌∙◌, arith}
+use Rattle.std.proofs.Common.{[], ◌∷◌, ◌∙◌, arith}
 use Rattle.denom.specs.Text.{denom_text}
 use Rattle.denom.specs.Views.{denom_view}
 use Rattle.figures.proofs.Parts.{two_pieces}

@@ -1,4 +1,4 @@
-use Rattle.std.proofs.Common.{◌≡◌, ◌∙◌, arith, rules}
+use Rattle.std.proofs.Common.{◌≡◌, arith, rules}
 use Rattle.tables.proofs.Rows.{few_denoms}
 use Rattle.world.specs.View.{view}
 use Rattle.audit.specs.Slots.{slots}

@@ -1,4 +1,4 @@
-use Rattle.std.proofs.Common.{◌≡◌, length, refl, ap, ◌∙◌}
+use Rattle.std.proofs.Common.{length, refl, ap, ◌∙◌}
 use Rattle.figures.specs.Figures.{over}
 use Rattle.world.specs.View.{view}
 use Rattle.audit.specs.Slots.{has_line, line_in}

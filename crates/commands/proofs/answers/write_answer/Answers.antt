@@ -1,4 +1,4 @@
-use Rattle.std.proofs.Common.{◌≡◌, ℕ, ◌+◌, ◌≤◌, List, [], ◌∷◌, ◌++◌, length, sym, refl, ap, ◌∙◌, subst, append_assoc, arith, rules}
+use Rattle.std.proofs.Common.{◌≡◌, ℕ, List, [], ◌∷◌, length, ap, ◌∙◌, subst, append_assoc, arith, rules}
 use Rattle.figures.specs.Figures.{figure, spaced, over, Holds}
 use Rattle.figures.proofs.Digits.{length_figure_64}
 use Rattle.commands.specs.Answers.{answer_words, answer_line, answer_of}

@@ -1,4 +1,4 @@
-use Rattle.std.proofs.Common.{◌≡◌, ◌+◌, ◌≤◌, [], ◌∷◌, length, take, codes, sym, refl, ap, ◌∙◌, arith, length-take}
+use Rattle.std.proofs.Common.{[], ◌∷◌, codes, ◌∙◌, arith}
 use Rattle.figures.specs.Figures.{figure}
 use Rattle.figures.proofs.Digits.{length_figure_64}
 use Rattle.figures.proofs.Parts.{words_held}

@@ -1,4 +1,4 @@
-use Rattle.std.proofs.Common.{◌≡◌, ℕ, ◌+◌, ◌≤◌, List, [], ◌∷◌, ◌++◌, length, take, codes, sym, refl, ap, ◌∙◌, subst, arith, length-take}
+use Rattle.std.proofs.Common.{◌≡◌, ℕ, List, [], ◌∷◌, ◌++◌, codes, ap, ◌∙◌, subst, arith}
 use Rattle.figures.specs.Figures.{figure, spaced, Holds}
 use Rattle.figures.proofs.Digits.{length_figure_64}
 use Rattle.figures.proofs.Parts.{words_held}

@@ -1,4 +1,4 @@
-use Rattle.std.proofs.Common.{◌≡◌, ℕ, Some, None, Ok, Err, Option, Result, sym, refl, ap, ◌∙◌, arith}
+use Rattle.std.proofs.Common.{◌≡◌, ℕ, Some, None, Ok, Err, Option, Result, refl, ap, ◌∙◌, arith}
 use Rattle.denom.specs.declared.types.TextFault.{TextFault}
 use Rattle.denom.specs.Denomination.{Denom}
 use Rattle.denom.specs.Text.{denom_of}

@@ -1,4 +1,4 @@
-use Rattle.std.proofs.Common.{◌≡◌, ◌≤◌, length, drop}
+use Rattle.std.proofs.Common.{◌≡◌, drop}
 use Rattle.denom.specs.Text.{begins}
 use Rattle.denom.proofs.reader.begins_with.Given as goal
 

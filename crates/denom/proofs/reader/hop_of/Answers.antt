@@ -1,4 +1,4 @@
-use Rattle.std.proofs.Common.{◌≡◌, sym, refl, ap, ◌∙◌, rules}
+use Rattle.std.proofs.Common.{sym}
 use Rattle.denom.specs.Steps.{short_hop}
 use Rattle.denom.proofs.reader.hop_of.Goals as goal
 

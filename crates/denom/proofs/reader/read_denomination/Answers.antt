@@ -1,4 +1,3 @@
-use Rattle.std.proofs.Common.{rules}
 use Rattle.denom.proofs.Back.{placed, held}
 use Rattle.denom.proofs.reader.read_denomination.Goals as goal
 

@@ -1,4 +1,4 @@
-use Rattle.std.proofs.Common.{◌≡◌, ◌&&◌, leb, length, sym, refl, ap, ◌∙◌, arith, false-eqb}
+use Rattle.std.proofs.Common.{◌&&◌, leb, length, ap, ◌∙◌, arith, false-eqb}
 use Rattle.std.proofs.lemmas.List.{take_rest}
 use Rattle.denom.specs.Text.{each, letter_or_digit}
 use Rattle.denom.specs.Steps.{symbol_is}

@@ -1,4 +1,4 @@
-use Rattle.std.proofs.Common.{◌≡◌, ℕ, ◌+◌, ◌*◌, ◌≤◌, true, ltb, List, length, take, sym, refl, ap, ◌∙◌, subst, arith, length-append, length-take}
+use Rattle.std.proofs.Common.{◌≡◌, ℕ, ◌+◌, ◌≤◌, true, ltb, List, length, take, sym, ap, ◌∙◌, subst, arith, length-append, length-take}
 use Rattle.figures.specs.Figures.{into}
 use Rattle.denom.specs.Text.{each, trace_text}
 use Rattle.denom.specs.Views.{hops_of, symbol_of}

@@ -1,4 +1,4 @@
-use Rattle.std.proofs.Common.{◌+◌, length, drop, ap, arith}
+use Rattle.std.proofs.Common.{length, drop, ap, arith}
 use Rattle.script.specs.Lines.{pieces}
 use Rattle.script.proofs.Cuts.{few_pieces}
 use Rattle.script.proofs.lines.count_words.Goals as goal

@@ -1,8 +1,8 @@
-use Rattle.std.proofs.Common.{◌≡◌, ℕ, ◌+◌, List, [], ◌∷◌, ◌++◌, drop, sym, refl, ap, ◌∙◌, append-nil, arith, rules}
+use Rattle.std.proofs.Common.{◌≡◌, ◌+◌, [], ◌∷◌, drop, sym, refl, ap, ◌∙◌, arith, rules}
 use Rattle.protocol.specs.World.{World}
 use Rattle.script.specs.Lines.{pieces}
 use Rattle.world.specs.View.{view}
-use Rattle.session.specs.Session.{line_leaves, line_prints, lines_leave, lines_print}
+use Rattle.session.specs.Session.{line_prints, lines_leave, lines_print}
 use Rattle.session.proofs.Pasts.{conserves}
 use Rattle.session.proofs.Printed.{handed_same, printing_more, printing_done}
 use Rattle.session.proofs.answers.answer_lines.Goals as goal

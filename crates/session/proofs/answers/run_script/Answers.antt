@@ -1,7 +1,6 @@
-use Rattle.std.proofs.Common.{◌≡◌, ℕ, Bool, true, false, cond, List, [], ◌∷◌, sym, ap, ◌∙◌}
+use Rattle.std.proofs.Common.{◌≡◌, Bool, true, false, cond, [], ◌∷◌, sym, ap, ◌∙◌}
 use Rattle.std.proofs.lemmas.Result.{IfOk-weaker}
 use Rattle.protocol.specs.Calls.{no}
-use Rattle.protocol.specs.World.{World}
 use Rattle.script.specs.Lines.{lines, script_too_long}
 use Rattle.commands.specs.Answers.{answer_line}
 use Rattle.world.specs.View.{view}

@@ -1,4 +1,3 @@
-use Rattle.std.proofs.Common.{◌≡◌, sym, refl, ap, ◌∙◌}
 use Rattle.denom.specs.Text.{denom_of}
 use Rattle.denom.specs.Views.{hops_of, symbol_of}
 use Rattle.denom.proofs.Back.{put_together, not_read, answers_symbol}

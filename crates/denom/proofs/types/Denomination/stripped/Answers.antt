@@ -1,4 +1,4 @@
-use Rattle.std.proofs.Common.{◌-◌, refl, arith, lit<}
+use Rattle.std.proofs.Common.{refl, arith, lit<}
 use Rattle.denom.specs.Views.{denom_view}
 use Rattle.denom.proofs.Shifts.{six_channels, hop_taken_off}
 use Rattle.denom.proofs.types.Denomination.stripped.Goals as goal

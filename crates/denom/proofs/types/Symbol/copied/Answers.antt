@@ -1,4 +1,4 @@
-use Rattle.std.proofs.Common.{◌≡◌, ℕ, true, List, length, take, sym, refl, ap, ◌∙◌, subst, arith}
+use Rattle.std.proofs.Common.{◌≡◌, ℕ, true, List, length, take, sym, ap, ◌∙◌, subst, arith}
 use Rattle.denom.specs.Text.{is_symbol}
 use Rattle.denom.proofs.Bounds.{symbol_short, front_over}
 use Rattle.denom.proofs.types.Symbol.copied.Goals as goal

@@ -1,4 +1,4 @@
-use Rattle.std.proofs.Common.{◌≡◌, ◌+◌, length, sym, refl, ap, ◌∙◌, length-append}
+use Rattle.std.proofs.Common.{◌+◌, length, sym, refl, ap, ◌∙◌, length-append}
 use Rattle.figures.proofs.Parts.{laid, length_into, piece}
 use Rattle.figures.proofs.line.Line.bytes.Goals as goal
 

@@ -1,4 +1,4 @@
-use Rattle.std.proofs.Common.{◌≡◌, [], ◌∷◌, sym, refl, ap, ◌∙◌, arith}
+use Rattle.std.proofs.Common.{[], ◌∷◌, ◌∙◌, arith}
 use Rattle.figures.specs.Figures.{figure}
 use Rattle.figures.proofs.Parts.{two_pieces}
 use Rattle.figures.proofs.line.Line.figure_word.Goals as goal

@@ -1,5 +1,4 @@
-use Rattle.std.proofs.Common.{◌≡◌, [], ◌∷◌, sym, refl, ap, ◌∙◌, arith}
-use Rattle.figures.specs.Figures.{figure}
+use Rattle.std.proofs.Common.{[], ◌∷◌, ◌∙◌, arith}
 use Rattle.figures.proofs.Parts.{two_pieces}
 use Rattle.figures.proofs.line.Line.word.Goals as goal
 

@@ -7,7 +7,7 @@ use Rattle.ledger.proofs.Answers.{free_from_ok}
 use Rattle.protocol.specs.declared.faults.WorldFault.{WorldFault}
 use Rattle.protocol.specs.Faults.{world_number, ledger_number}
 use Rattle.protocol.specs.Refusals.{first}
-use Rattle.protocol.specs.World.{World, Packet, number, lane_out}
+use Rattle.protocol.specs.World.{World, Packet, lane_out}
 use Rattle.protocol.specs.Calls.{send, says, no, said, refusals, with_bal, with_packets, recorded, sent_off, next_sequence}
 use Rattle.world.specs.View.{view}
 use Rattle.tables.specs.declared.types.Route.{Route}
