@@ -1,14 +1,13 @@
 -- A write to one amount of a table, its columns, and an empty table, as the ledger sees them.
-use Rattle.std.proofs.Common.{◌≡◌, ℕ, ◌+◌, ◌*◌, ◌/◌, ◌<◌, ◌≤◌, cond, ltb, List, [], length, get_or, set, refl, ap, ◌∙◌, ⊎_elim, arith, length-set, get_or-set_other, get_or-set_same}
+use Rattle.std.proofs.Common.{◌≡◌, ℕ, ◌+◌, ◌*◌, ◌<◌, ◌≤◌, cond, ltb, List, length, get_or, set, refl, ap, ◌∙◌, ⊎_elim, arith, length-set, get_or-set_other, get_or-set_same}
 use mathlib.Core.Path.{fun_ext}
-use Rattle.std.specs.Simd.{first_chunks}
 use Rattle.std.proofs.lemmas.Bool.{cases_eq}
 use Rattle.std.proofs.lemmas.Bool.Decides.{nat_tests}
 use Rattle.sums.specs.Sums.{sum_below, counted}
-use Rattle.sums.specs.Columns.{amount_in, in_column}
+use Rattle.sums.specs.Columns.{in_column}
 use Rattle.sums.specs.declared.Column.{Column}
 use Rattle.sums.proofs.Below.{sum_same, sum_zero}
-use Rattle.sums.proofs.Columns.{column_counted, amount_chunked}
+use Rattle.sums.proofs.Columns.{column_counted}
 use Rattle.protocol.specs.House.{most}
 use Rattle.protocol.specs.Ledger.{supply, put}
 use Rattle.ledger.specs.Empty.{without_bars, empty}
@@ -36,15 +35,12 @@ module _ (xs : List ℕ) (a d v : ℕ) (long : 768 ≤ length xs) (ha : a < 24) 
   pub balances_set : table_balances (set xs (a * 32 + d) v) ≡ put (table_balances xs) 0 a d v
   balances_set = fun_ext λ c'. fun_ext λ a'. fun_ext λ d'. set_each c' a' d'
 
--- a column of the first accounts, added up
-pub column_sum : (xs : List ℕ) (rows : List (List ℕ)) (w : Column) → rows ≡ first_chunks 32 (length xs / 32) xs → length rows ≡ length xs / 32 → 768 ≤ length xs → w.to ≤ 24 → w.from ≡ 0 → w.denomination < 32 → counted (amount_in w) (in_column w) rows ≡ sum_below w.to (λ a. table_balances xs 0 a w.denomination)
+-- a column of the first n accounts, added up
+pub column_sum : (xs : List ℕ) (w : Column) → 768 ≤ length xs → w.to ≤ 24 → w.from ≡ 0 → w.denomination < 32 → counted (λ x. x) (in_column w) xs ≡ sum_below w.to (λ a. table_balances xs 0 a w.denomination)
 unfolding table_balances
-column_sum xs rows w cut many long few all known =
-    column_counted w rows (omega arith)
-    ∙ sum_same w.to _ _ (λ a h.
-    let here : get_or (get_or rows a []) w.denomination 0 ≡ get_or xs (a * 32 + w.denomination) 0 =
-    ap (λ (r : List (List ℕ)). get_or (get_or r a []) w.denomination 0) cut ∙ amount_chunked 32 (length xs / 32) xs a w.denomination (omega arith) known in
-    grind (arith, nat_tests))
+column_sum xs w long few all known =
+    column_counted w xs (omega arith) known
+    ∙ sum_same w.to _ _ (λ a h. grind (arith, nat_tests))
 
 -- a table of noughts
 module _ (xs : List ℕ) (none : (k : ℕ) → get_or xs k 0 ≡ 0) where

@@ -108,8 +108,7 @@ impl AccountBank {
             from: 0,
             to: accounts,
         };
-        let (rows, _) = self.amounts.as_slice().as_chunks::<32>();
-        add_up(rows, &column) as u64
+        add_up(self.amounts.as_slice(), &column) as u64
     }
 }
 

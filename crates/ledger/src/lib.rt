@@ -10,7 +10,8 @@ ghost use Rattle.protocol.specs.Ledger.{Ledger as Meaning, Lawful, supply as sup
 ghost use Rattle.protocol.specs.Refusals.{answer_unless, left_by};
 
 pub use checks::{balance_within, move_within, total_within, user_within, within};
-use protocol::{ACCOUNTS, LedgerFault};
+use protocol::LedgerFault;
+pub use protocol::{ACCOUNTS, DENOMINATIONS, USERS};
 
 /// Balances of chains by account and denomination, and barred users. Numbers outside the meaning are refused.
 pub trait Ledger {

@@ -3,7 +3,7 @@
 use Rattle.std.specs.Prelude.{ℕ, ◌+◌, cond, List, [], ◌∷◌, ◌++◌, map, length, codes, ◌==◌, nat_le, nat_lt, slice_index_or}
 use Rattle.denom.specs.Denomination.{Denom, Token, hopless, behind}
 use Rattle.denom.specs.Text.{denom_text}
-use Rattle.figures.specs.Figures.{figure, line_of}
+use Rattle.figures.specs.Figures.{figure}
 use Rattle.protocol.specs.House.{escrow_account, line_room}
 use Rattle.protocol.specs.Refusals.{Refusal, ◌when◌}
 use Rattle.protocol.specs.World.{World, lane, back, from_end, to_end, numbers_from, no_denom, supply_of, held, open_packets, on_lane_with, of_token}
@@ -42,24 +42,35 @@ module _ (w : World) (L D d : ℕ) where
 
 -- Lines
 
+-- words with a space between them, and LF behind the last
+abbrev pub line : List (List ℕ) → List ℕ
+line [] = 10 ∷ []
+line (w ∷ []) = w ++ 10 ∷ []
+line (w ∷ v ∷ ws) = w ++ 32 ∷ line (v ∷ ws)
+
 -- line 0: how many tokens, links and packets there have been
 abbrev pub count_line : World → List ℕ
 count_line w =
-    line_of (codes "audit") (figure (length w.tokens) ∷ figure (length w.links) ∷ figure (length w.packets) ∷ [])
+    line (codes "audit" ∷ figure (length w.tokens) ∷ figure (length w.links) ∷ figure (length w.packets) ∷ [])
 
 -- a token: its supply at home, what all users hold of it under any trace, and its open packets
 abbrev pub token_line : World → Token → List ℕ
 token_line w t =
-    line_of
-    (codes "token")
-    (figure t.chain ∷ t.symbol ∷ figure (token_supply w t) ∷ figure (held w t) ∷ figure (token_open w t) ∷ [])
+    line
+    (codes "token"
+    ∷ figure t.chain
+    ∷ t.symbol
+    ∷ figure (token_supply w t)
+    ∷ figure (held w t)
+    ∷ figure (token_open w t)
+    ∷ [])
 
 -- the escrow of denomination number d at end D of link L: what backs it
 abbrev pub escrow_line : World → ℕ → ℕ → ℕ → List ℕ
 escrow_line w L D d =
-    line_of
-    (codes "escrow")
-    (figure L
+    line
+    (codes "escrow"
+    ∷ figure L
     ∷ figure D
     ∷ denom_text (denom_at w L D d)
     ∷ figure (escrow_held w L D d)

@@ -1,5 +1,5 @@
 -- Sums over the numbers below a bound.
-use Rattle.std.proofs.Common.{◌≡◌, ℕ, zero, suc, ◌+◌, ◌<◌, ◌≤◌, cond, eqb, refl, ap, ⊎_elim, arith}
+use Rattle.std.proofs.Common.{◌≡◌, ℕ, zero, suc, ◌+◌, ◌*◌, ◌<◌, ◌≤◌, cond, eqb, refl, ap, ◌∙◌, ⊎_elim, add-zero, add-suc, suc-mul, zero-mul, arith}
 use Rattle.std.proofs.lemmas.Bool.{cases_eq, eq-eqb, ne_eqb}
 use Rattle.sums.specs.Sums.{sum_below, gate}
 
@@ -80,6 +80,18 @@ sum_beyond n (suc m) f h none =
     let below : sum_below m f ≡ sum_below n f = sum_beyond n m f (omega arith) (λ k l u. none k l (omega arith)) in
     omega arith)
     (cases_eq n (suc m))
+
+-- two bounds one after the other
+pub sum_split : (n m : ℕ) (f : ℕ → ℕ) → sum_below (n + m) f ≡ sum_below n f + sum_below m (λ k. f (n + k))
+unfolding sum_below
+sum_split n zero f = rw add-zero (omega arith)
+sum_split n (suc m) f = rw add-suc (let ih : sum_below (n + m) f ≡ sum_below n f + sum_below m (λ k. f (n + k)) = sum_split n m f in omega arith)
+
+-- a sum over a table, row by row
+pub sum_table : (n m : ℕ) (f : ℕ → ℕ) → sum_below (n * m) f ≡ sum_below n (λ i. sum_below m (λ k. f (i * m + k)))
+unfolding sum_below
+sum_table zero m f = rw zero-mul refl
+sum_table (suc n) m f = rw suc-mul (sum_split (n * m) m f ∙ ap (λ (s : ℕ). s + sum_below m (λ k. f (n * m + k))) (sum_table n m f))
 
 -- only one term counts
 pub sum_only : (n a : ℕ) (f : ℕ → ℕ) → a < n → sum_below n (λ k. gate (eqb k a) (f k)) ≡ f a

@@ -1,44 +1,46 @@
 // The one adding-up routine: the amounts of those rows of a slice that count, whatever the rows are.
 #![tactic(auto)]
 
-ghost use Rattle.std.specs.Prelude.{◌≡◌, ℕ, ◌*◌, ◌≤◌, Bool, length};
+ghost use Rattle.std.specs.Prelude.{◌≡◌, ℕ, Bool};
 ghost use Rattle.sums.specs.Sums.{counted};
-ghost use Rattle.sums.specs.Columns.{amount_in, in_column};
+ghost use Rattle.sums.specs.Columns.{in_column};
 
-/// A row that has an amount, and that counts in a sum or not, by what is wanted and by its place in the slice.
-pub trait Row<Which> {
-    ghost amount: { Which → Self → ℕ → ℕ };
+/// A row that has an amount, and that counts in a sum or not; its place in the slice may decide.
+pub trait Row {
+    /// Which rows are wanted.
+    type Which;
 
-    ghost counts: { Which → Self → ℕ → Bool };
+    ghost amount: { Self → ℕ };
 
-    /// The amount of the row at this place.
-    fn worth(&self, which: &Which, place: usize) -> u64
-        ensures { result ≡ amount which.now self.now place };
+    ghost counts: { Self.Which → Self → ℕ → Bool };
 
-    /// Whether the row at this place is one of those wanted.
-    fn chosen(&self, which: &Which, place: usize) -> bool
+    /// The row's amount.
+    fn worth(&self) -> u64
+        ensures { result ≡ amount self.now };
+
+    /// Whether the row, at this place, is one of those wanted.
+    fn chosen(&self, which: &Self::Which, place: usize) -> bool
         ensures { result ≡ counts which.now self.now place };
 }
 
 /// The sum of the amounts of the rows wanted. It fits, whatever the amounts.
-pub fn add_up<Which, R: Row<Which>>(rows: &[R], which: &Which) -> u128
-    ensures sum { result ≡ counted (R.Row.amount which.now) (R.Row.counts which.now) rows.now }
-    ensures within { result ≤ length rows.now * 18446744073709551615 }
+pub fn add_up<R: Row>(rows: &[R], which: &R::Which) -> u128
+    ensures { result ≡ counted R.Row.amount (R.Row.counts which.now) rows.now }
 {
     let mut sum: u128 = 0;
     for (place, row) in rows.iter().enumerate() {
         if row.chosen(which, place) {
-            sum += u128::from(row.worth(which, place));
+            sum += u128::from(row.worth());
         }
     }
     sum
 }
 
-// An account has an amount of each denomination.
+// A table of amounts has so many denominations to an account.
 const DENOMINATIONS: usize = 32;
 
-/// Of accounts with an amount of each denomination: one denomination of the accounts from `from` up to, but not with,
-/// `to`.
+/// Of a table of amounts with 32 denominations to an account: one denomination of the accounts from `from` up to, but
+/// not with, `to`.
 #[derive(Clone, Copy)]
 pub struct Column {
     pub denomination: usize,
@@ -46,20 +48,19 @@ pub struct Column {
     pub to: usize,
 }
 
-impl Row<Column> for [u64; 32] {
-    ghost amount = { amount_in };
+impl Row for u64 {
+    type Which = Column;
+
+    ghost amount = { λ x. x };
 
     ghost counts = { in_column };
 
-    fn worth(&self, which: &Column, _place: usize) -> u64 {
-        if which.denomination < DENOMINATIONS {
-            self[which.denomination]
-        } else {
-            0
-        }
+    fn worth(&self) -> u64 {
+        *self
     }
 
     fn chosen(&self, which: &Column, place: usize) -> bool {
-        which.from <= place && place < which.to
+        let account = place / DENOMINATIONS;
+        place % DENOMINATIONS == which.denomination && which.from <= account && account < which.to
     }
 }
