@@ -6,9 +6,9 @@ mod tests {
     use account_bank::AccountBank;
     use audit::write_line;
     use books::{FreeBook, StrictBook};
+    use layers::Beside;
     use note_bank::{NoteBank, Place};
-    use session::run_script;
-    use side_by_side::Beside;
+    use session::answer_lines;
     use std::alloc::{AllocError, Global};
     use std::process::Abort;
     use std::test::Fail;
@@ -27,15 +27,17 @@ mod tests {
     }
 
     // 100 gold, of which 40 are sent to the other chain and not received yet.
-    fn gold_on_its_way(heap: Global) -> Result<Two, AllocError> {
+    fn gold_on_its_way(heap: Global) -> Result<Two, Fail> {
         let mut world = two_chains(heap)?;
         let mut out = Vec::new(heap);
-        run_script(
+        match answer_lines(
             &mut world,
             b"open 0 1 free\nissue 0 2 gold 100\nsend 0 0 2 5 gold 40 0\n",
             &mut out,
-        )?;
-        Ok(world)
+        ) {
+            Ok(()) => Ok(world),
+            Err(_) => Err(Fail::new("an answer was not written")),
+        }
     }
 
     // Line n over a buffer of 300 bytes, all 46, holds `line` and behind it what it held.

@@ -1,9 +1,8 @@
 use account_bank::AccountBank;
-use bars::Barring;
+use layers::{Barring, Beside};
 use ledger::Ledger;
 use note_bank::{NoteBank, Place};
 use protocol::LedgerFault;
-use side_by_side::Beside;
 use std::alloc::{AllocError, Global};
 use std::process::Abort;
 use std::test::Fail;

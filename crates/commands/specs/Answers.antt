@@ -8,7 +8,7 @@ use Rattle.protocol.specs.declared.faults.Layer.TheVariants.{Script, Book, Ledge
 use Rattle.protocol.specs.Calls.{Answer, done, says, home_is, no, said}
 use Rattle.protocol.specs.Faults.{fault_number, layer_of}
 use Rattle.commands.specs.declared.replies.Reply.{Reply}
-use Rattle.commands.specs.declared.replies.Reply.TheVariants.{Done, Number, Home, Audit}
+use Rattle.commands.specs.declared.replies.Reply.TheVariants.{Done, Number, Home}
 
 -- a layer by its name
 abbrev pub layer_text : Layer → List ℕ
@@ -33,7 +33,6 @@ abbrev pub reply_answer : Reply → Answer
 reply_answer Done = done
 reply_answer (Number n) = says n
 reply_answer (Home t) = home_is (token_view t)
-reply_answer Audit = done
 
 -- what a reply or a fault says
 abbrev pub answer_of : Result Reply Fault → Answer

@@ -79,7 +79,7 @@ fn write_reply(line: &mut Line, reply: Reply)
     ensures lender { line.new.buffer.ghost_name ≡ line.old.buffer.ghost_name }
 {
     match reply {
-        Reply::Done | Reply::Audit => write_done(line),
+        Reply::Done => write_done(line),
         Reply::Number(n) => write_number(line, n),
         Reply::Home(token) => {
             let TokenId { chain, symbol } = token;

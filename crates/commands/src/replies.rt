@@ -9,6 +9,4 @@ pub enum Reply {
     Number(u64),
     /// The token that a denomination stands for.
     Home(TokenId),
-    /// The lines of an audit, which follow.
-    Audit,
 }

@@ -2,14 +2,13 @@
 #![tactic(auto)]
 
 use account_bank::AccountBank;
-use bars::Barring;
 use books::{FreeBook, StrictBook};
-use commands::MOST_SCRIPT;
+use commands::{MOST_SCRIPT, is_too_long};
+use layers::{Barring, Beside};
 use note_bank::{NoteBank, Place};
-use session::{Printer, run_script};
-use side_by_side::Beside;
+use session::answer_lines;
 use std::io;
-use std::io::{BufWriter, Read};
+use std::io::{BufWriter, Read, Write};
 use world::World;
 
 // Fills a buffer from the input, and answers how many bytes came before it was full or the input ended.
@@ -31,12 +30,17 @@ fn fill(input: &mut impl Read, buffer: &mut [u8]) -> io::Result<usize> {
 // Puts a world together and answers a script on it.
 fn answer_script(text: &[u8], rt: &HostRuntime) -> anyhow::Result<()> {
     let heap = rt.alloc();
+    let mut out = BufWriter::new(heap, rt.stdout())?;
+    if is_too_long(text) {
+        out.write_all(b"0 no 1 script\n")?;
+        out.flush()?;
+        return Ok(());
+    }
     let accounts = AccountBank::new(vec![in heap; 0u64; 768]?);
     let notes = NoteBank::new(vec![in heap; Place::Free; 1024]?);
     let ledger = Barring::new(Beside::new(accounts, notes));
     let mut world = World::new(ledger, FreeBook::new(), StrictBook::new());
-    let mut out = Printer::over(BufWriter::new(heap, rt.stdout())?);
-    run_script(&mut world, text, &mut out)?;
+    answer_lines(&mut world, text, &mut out)?;
     out.flush()?;
     Ok(())
 }

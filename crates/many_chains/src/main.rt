@@ -2,12 +2,11 @@
 #![tactic(auto)]
 
 use account_bank::AccountBank;
-use bars::Barring;
 use books::{FreeBook, StrictBook};
+use layers::{Barring, Beside};
 use note_bank::{NoteBank, Place};
-use session::{Printer, run_script};
-use side_by_side::Beside;
-use std::io::BufWriter;
+use session::answer_lines;
+use std::io::{BufWriter, Write};
 use world::World;
 
 const SCRIPT: &[u8] =
@@ -41,7 +40,6 @@ retire 0 4 transfer/channel-2/transfer/channel-0/gold 5
 ack 3 1 1
 ack 3 1 1
 receive 3 1 1
-audit
 # timeouts, and a strict link
 issue 1 1 ore 50
 send 1 3 1 1 ore 10 5
@@ -96,19 +94,18 @@ open 0 2 free
 open 0 1 free
 open 0 0 free
 open 0 4 free
-audit
 ";
 
 fn main(rt: HostRuntime) -> anyhow::Result<()> {
     let heap = rt.alloc();
-    let mut out = Printer::over(BufWriter::new(heap, rt.stdout())?);
+    let mut out = BufWriter::new(heap, rt.stdout())?;
     let first = AccountBank::new(vec![in heap; 0u64; 768]?);
     let second = NoteBank::new(vec![in heap; Place::Free; 1024]?);
     let third = AccountBank::new(vec![in heap; 0u64; 768]?);
     let fourth = NoteBank::new(vec![in heap; Place::Free; 1024]?);
     let ledger = Barring::new(Beside::new(Beside::new(first, second), Beside::new(third, fourth)));
     let mut world = World::new(ledger, FreeBook::new(), StrictBook::new());
-    run_script(&mut world, SCRIPT, &mut out)?;
+    answer_lines(&mut world, SCRIPT, &mut out)?;
     out.flush()?;
     Ok(())
 }

@@ -1,2 +1,1 @@
 pub mod Pasts
-pub mod Printed

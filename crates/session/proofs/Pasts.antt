@@ -7,7 +7,7 @@ use Rattle.protocol.specs.Ledger.{Ledger}
 use Rattle.protocol.specs.World.{World}
 use Rattle.protocol.proofs.Whole.{conservation, supply_accounted}
 use Rattle.commands.specs.Commands.{Request, call, audit, parsed}
-use Rattle.session.specs.Session.{performed, left_by_line, line_leaves}
+use Rattle.session.specs.Session.{performed, line_by, carried_out}
 use Rattle.session.specs.Conservation.{Kept, Conserves, Reached}
 
 -- conservation of the world after a past
@@ -29,11 +29,11 @@ performed_reaches : (l : Ledger) (bs : Bool → Book) (w : World) (q : Request) 
 performed_reaches l bs w (call k) r = (k ∷ r.0, ap (λ (x : World). (step x k).0) r.1)
 performed_reaches l bs w audit r = r
 
-line_reaches : (l : Ledger) (bs : Bool → Book) (w : World) (o : Result (Option Request) ℕ) → Reached l bs w → Reached l bs (left_by_line w o)
+line_reaches : (l : Ledger) (bs : Bool → Book) (w : World) (o : Result (Option Request) ℕ) → Reached l bs w → Reached l bs (line_by w o).0
 line_reaches l bs w (Ok None) r = r
 line_reaches l bs w (Ok (Some q)) r = performed_reaches l bs w q r
 line_reaches l bs w (Err n) r = r
 
 -- a line leads from a world that calls have reached to another
-pub line_leads_on : (l : Ledger) (bs : Bool → Book) (w v : World) (line : List ℕ) → v ≡ line_leaves w line → Reached l bs w → Reached l bs v
+pub line_leads_on : (l : Ledger) (bs : Bool → Book) (w v : World) (line : List ℕ) → v ≡ (carried_out w line).0 → Reached l bs w → Reached l bs v
 line_leads_on l bs w v line e r = subst (Reached l bs) (sym e) (line_reaches l bs w (parsed line) r)

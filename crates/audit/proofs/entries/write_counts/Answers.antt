@@ -4,6 +4,7 @@ use Rattle.protocol.specs.Audit.{count_line}
 use Rattle.tables.specs.declared.types.Tables.{Tables}
 use Rattle.tables.specs.View.{tokens_in, links_in, packets_in}
 use Rattle.world.specs.View.{view}
+use Rattle.audit.proofs.Written.{first_and_others}
 use Rattle.audit.proofs.entries.write_counts.Goals as goal
 
 pub returns : goal.returns
@@ -13,7 +14,7 @@ returns g c =
     let links = c.len-links.ensures ∙ ap (λ (t : Tables). length (links_in t.links)) c.tables-tables.ensures in
     let packets = c.len-packets.ensures ∙ ap (λ (t : Tables). length (packets_in t.packets)) c.tables-tables.ensures in
     let told : line_of (codes "audit") (figure c.len-tokens.result ∷ figure c.len-links.result ∷ figure c.len-packets.result ∷ []) ≡ count_line w =
-    λ i. line_of (codes "audit") (figure (tokens i) ∷ figure (links i) ∷ figure (packets i) ∷ []) in
+    (λ i. line_of (codes "audit") (figure (tokens i) ∷ figure (links i) ∷ figure (packets i) ∷ [])) ∙ first_and_others (codes "audit") (figure (length w.tokens) ∷ figure (length w.links) ∷ figure (length w.packets) ∷ []) in
     record {
       length = c.put_counts.ensures.length ∙ ap length told;
       buffer = c.put_counts.ensures.buffer ∙ ap (λ l. over l c.args.buffer.now) told;

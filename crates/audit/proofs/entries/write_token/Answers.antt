@@ -5,12 +5,13 @@ use Rattle.std.proofs.lemmas.Bool.{lt-ltb, le-ltb}
 use Rattle.figures.specs.Figures.{figure, line_of, over}
 use Rattle.denom.specs.Denomination.{Token}
 use Rattle.denom.specs.Views.{token_view, symbol_of}
-use Rattle.protocol.specs.Audit.{token_line}
+use Rattle.protocol.specs.Audit.{token_supply, token_open, token_line}
+use Rattle.protocol.specs.World.{held}
 use Rattle.tables.specs.declared.types.Tables.{Tables}
 use Rattle.tables.specs.View.{tokens_in}
 use Rattle.world.specs.View.{view}
 use Rattle.audit.specs.Slots.{no_token}
-use Rattle.audit.proofs.Written.{filled_answer, filled_buffer, empty_answer, empty_buffer}
+use Rattle.audit.proofs.Written.{first_and_others, filled_answer, filled_buffer, empty_answer, empty_buffer}
 use Rattle.audit.proofs.entries.write_token.Goals as goal
 
 pub returns-then-number-tokens : goal.returns-then-number-tokens
@@ -37,6 +38,7 @@ returns g c =
     in
     let told =
     (λ i. line_of (codes "token") (figure t.chain ∷ symbol_of t.symbol ∷ figure (c.supply_of_token-supply.ensures i) ∷ figure (c.held-users.ensures.sum i) ∷ figure (c.open_of_token-carried.ensures.sum i) ∷ []))
+    ∙ first_and_others (codes "token") (figure t.chain ∷ symbol_of t.symbol ∷ figure (token_supply w (token_view t)) ∷ figure (held w (token_view t)) ∷ figure (token_open w (token_view t)) ∷ [])
     ∙ ap (token_line w) seen
     in
     record {

@@ -1,6 +1,6 @@
 use Rattle.world.specs.View.{view}
 use Rattle.session.proofs.Pasts.{conserves, line_leads_on}
-use Rattle.session.proofs.carry.carry_out.Goals as goal
+use Rattle.session.proofs.carry_out.Goals as goal
 
 pub returns : goal.returns
 returns g c =
@@ -9,7 +9,6 @@ returns g c =
     let told = c.carry_line.ensures in
     record {
       answer = told.answer;
-      audit = told.audit;
       after = told.after;
       reached = λ l bs r. line_leads_on l bs before after c.args.line.now told.after r;
       conserved = conserves after;
