@@ -109,7 +109,7 @@ impl Counts {
 
 /// The console of this repository.
 pub fn default_console() -> PathBuf {
-    Path::new(env!("CARGO_MANIFEST_DIR")).join("../../../target/bin/console")
+    Path::new(env!("CARGO_MANIFEST_DIR")).join("../../../crates/console/out/console")
 }
 
 /// Compares good and damaged scripts of the seeds from `first`. Says whether all agreed.
