@@ -5,7 +5,7 @@ ghost use Rattle.audit.specs.declared.slots.Slot.TheVariants.{Token};
 ghost use Rattle.audit.specs.Slots.{slot_at, has_escrow, has_line, line_in, slots, Entered};
 ghost use Rattle.world.specs.View.{view};
 
-use super::figures::{
+use super::columns::{
     denominations_on, escrow_at, held, open_across, open_of_token, supply_of_token, vouchers_of,
 };
 use super::lines::{put_counts, put_escrow, put_token};

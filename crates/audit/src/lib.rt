@@ -2,8 +2,8 @@
 #![tactic(auto)]
 
 mod balances;
+mod columns;
 mod entries;
-mod figures;
 mod lines;
 mod report;
 mod rows;

@@ -9,7 +9,7 @@ use Rattle.tables.specs.View.{denoms_of}
 use Rattle.world.specs.View.{view}
 use Rattle.tables.proofs.Kept.{number_map}
 use Rattle.audit.proofs.Totals.{supply_by_number, no_supply}
-use Rattle.audit.proofs.figures.supply_of.Goals as goal
+use Rattle.audit.proofs.columns.supply_of.Goals as goal
 
 -- what was found among the rows is the number in the register
 numbered : (e : Denomination) (rows : List Denomination) (t u : Tables) (chain : ℕ) (o : Option ℕ) → map denom_view rows ≡ denoms_of t.denominations chain → t ≡ u → o ≡ number_of (λ x. same_denom (denom_view e) (denom_view x)) rows → number_of (same_denom (denom_view e)) (denoms_of u.denominations chain) ≡ o

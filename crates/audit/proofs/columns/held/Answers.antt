@@ -4,7 +4,7 @@ use Rattle.denom.specs.Views.{token_view}
 use Rattle.world.specs.View.{view}
 use Rattle.audit.specs.Figures.{held_on}
 use Rattle.audit.proofs.Totals.{sum_more, held_all}
-use Rattle.audit.proofs.figures.held.Goals as goal
+use Rattle.audit.proofs.columns.held.Goals as goal
 
 pub overflow_add-sum : goal.overflow_add-sum
 overflow_add-sum g c = omega (arith, c.loop-chain.invariant.0, c.held_on-sum.ensures.within)

@@ -5,7 +5,7 @@ use Rattle.tables.specs.View.{no_denominations}
 use Rattle.world.specs.View.{view}
 use Rattle.audit.proofs.SevenHops.{too_many, unregistered}
 use Rattle.audit.proofs.Totals.{no_supply}
-use Rattle.audit.proofs.figures.vouchers_of.Goals as goal
+use Rattle.audit.proofs.columns.vouchers_of.Goals as goal
 
 pub returns-in-None : goal.returns-in-None
 returns-in-None g c =

@@ -3,7 +3,7 @@ use Rattle.denom.specs.Denomination.{behind}
 use Rattle.denom.specs.Views.{denom_view}
 use Rattle.world.specs.View.{view}
 use Rattle.audit.proofs.SevenHops.{too_many, uncarried}
-use Rattle.audit.proofs.figures.open_vouchers.Goals as goal
+use Rattle.audit.proofs.columns.open_vouchers.Goals as goal
 
 pub returns-in-None : goal.returns-in-None
 returns-in-None g c =

@@ -3,7 +3,7 @@ use Rattle.sums.specs.Sums.{sum_below}
 use Rattle.denom.specs.Views.{token_view}
 use Rattle.world.specs.View.{view}
 use Rattle.audit.specs.Figures.{held_on}
-use Rattle.audit.proofs.figures.held.Given as goal
+use Rattle.audit.proofs.columns.held.Given as goal
 
 -- the sum so far is within its bound, and is that of the chains below
 abbrev pub invariant-loop-chain : goal.invariant-loop-chain

@@ -4,7 +4,7 @@ use Rattle.tables.specs.declared.types.Tables.{Tables}
 use Rattle.tables.specs.View.{denoms_of}
 use Rattle.world.specs.View.{view}
 use Rattle.audit.proofs.Totals.{held_counted}
-use Rattle.audit.proofs.figures.held_on.Goals as goal
+use Rattle.audit.proofs.columns.held_on.Goals as goal
 
 pub returns : goal.returns
 returns g c =
