@@ -8,7 +8,7 @@ ghost use Rattle.ledger.specs.Empty.{empty};
 ghost use Rattle.ledger.specs.Taking.{take_refusals};
 ghost use Rattle.account_bank.specs.Table.{table_chains, table_balances, table_meaning, table_lawful, table_unserved};
 
-use ledger::{Ledger, balance_within, move_within, total_within, user_within, within};
+use ledger::{Confined, Ledger, balance_within, move_within, total_within, user_within, within};
 use protocol::{ACCOUNTS, DENOMINATIONS, LedgerFault, USERS};
 use sums::{Column, add_up};
 
@@ -117,8 +117,6 @@ impl Ledger for AccountBank {
 
     ghost lawful = { λ b. table_lawful b.amounts.items b.supplies };
 
-    ghost unserved = { λ b c a d _ h. table_unserved b.amounts.items c a d h };
-
     fn chains(&self) -> usize {
         if self.amounts.len() < AMOUNTS { 0 } else { 1 }
     }
@@ -208,4 +206,8 @@ impl Ledger for AccountBank {
     fn clear(&mut self) {
         wipe(&mut self.amounts);
     }
+}
+
+impl Confined for AccountBank {
+    ghost unserved = { λ b c a d _ h. table_unserved b.amounts.items c a d h };
 }

@@ -1,10 +1,15 @@
 ghost use Rattle.std.specs.Prelude.{◌≡◌, ◌<◌};
 ghost use Rattle.protocol.specs.Ledger.{supply as supply_of, users_hold};
 
-use ledger::Ledger;
+use ledger::{Confined, Ledger};
 
 // What an account has of a denomination; nothing where the chain is not served.
-pub(crate) fn balance_at<L: Ledger>(ledger: &L, chain: usize, account: usize, number: usize) -> u64
+pub(crate) fn balance_at<L: Confined>(
+    ledger: &L,
+    chain: usize,
+    account: usize,
+    number: usize,
+) -> u64
     requires chain { chain < 8 }
     requires account { account < 24 }
     requires number { number < 32 }
@@ -17,7 +22,7 @@ pub(crate) fn balance_at<L: Ledger>(ledger: &L, chain: usize, account: usize, nu
 }
 
 // What all accounts of a chain have of a denomination; nothing where the chain is not served.
-pub(crate) fn supply_at<L: Ledger>(ledger: &L, chain: usize, number: usize) -> u64
+pub(crate) fn supply_at<L: Confined>(ledger: &L, chain: usize, number: usize) -> u64
     requires chain { chain < 8 }
     requires number { number < 32 }
     ensures { result ≡ supply_of (L.Ledger.meaning ledger.now).balance chain number }
@@ -29,7 +34,7 @@ pub(crate) fn supply_at<L: Ledger>(ledger: &L, chain: usize, number: usize) -> u
 }
 
 // What a chain's users have of a denomination; nothing where the chain is not served.
-pub(crate) fn users_hold_at<L: Ledger>(ledger: &L, chain: usize, number: usize) -> u64
+pub(crate) fn users_hold_at<L: Confined>(ledger: &L, chain: usize, number: usize) -> u64
     requires chain { chain < 8 }
     requires number { number < 32 }
     ensures { result ≡ users_hold (L.Ledger.meaning ledger.now).balance chain number }

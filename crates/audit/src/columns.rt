@@ -14,7 +14,7 @@ use super::balances::{balance_at, supply_at};
 use super::rows::{OfToken, OnLane, Traces};
 use books::Book;
 use denom::{Denomination, TokenId};
-use ledger::Ledger;
+use ledger::{Confined, Ledger};
 use protocol::{CHAINS, DENOMINATIONS, escrow_account};
 use register::find_in;
 use tables::{Denominations, End, Route, Tables};
@@ -36,7 +36,7 @@ pub(crate) fn denominations_on(tables: &Tables, chain: usize) -> &[Denomination]
 }
 
 // What all accounts of a chain have of a denomination.
-pub(crate) fn supply_of<L: Ledger, F: Book, S: Book>(
+pub(crate) fn supply_of<L: Confined, F: Book, S: Book>(
     world: &World<L, F, S>,
     chain: usize,
     denomination: &Denomination,
@@ -56,7 +56,7 @@ pub(crate) fn supply_of<L: Ledger, F: Book, S: Book>(
 }
 
 // The supply of a token at home.
-pub(crate) fn supply_of_token<L: Ledger, F: Book, S: Book>(
+pub(crate) fn supply_of_token<L: Confined, F: Book, S: Book>(
     world: &World<L, F, S>,
     token: &TokenId,
 ) -> u64
@@ -66,7 +66,7 @@ pub(crate) fn supply_of_token<L: Ledger, F: Book, S: Book>(
 }
 
 // What the open packets of a token carry.
-pub(crate) fn open_of_token<'a, L: Ledger, F: Book, S: Book>(
+pub(crate) fn open_of_token<'a, L: Confined, F: Book, S: Book>(
     world: &'a World<L, F, S>,
     token: &'a TokenId,
 ) -> u128
@@ -77,7 +77,7 @@ pub(crate) fn open_of_token<'a, L: Ledger, F: Book, S: Book>(
 }
 
 // What the open packets on a lane with a denomination carry.
-pub(crate) fn open_on<'a, L: Ledger, F: Book, S: Book>(
+pub(crate) fn open_on<'a, L: Confined, F: Book, S: Book>(
     world: &'a World<L, F, S>,
     lane: usize,
     denomination: &'a Denomination,
@@ -96,7 +96,7 @@ pub(crate) fn open_on<'a, L: Ledger, F: Book, S: Book>(
 }
 
 // What the users of a chain hold of a token, under every trace.
-fn held_on<'a, L: Ledger, F: Book, S: Book>(
+fn held_on<'a, L: Confined, F: Book, S: Book>(
     world: &'a World<L, F, S>,
     chain: usize,
     token: &'a TokenId,
@@ -115,7 +115,7 @@ fn held_on<'a, L: Ledger, F: Book, S: Book>(
 }
 
 // What all users hold of a token, under every trace on every chain.
-pub(crate) fn held<L: Ledger, F: Book, S: Book>(world: &World<L, F, S>, token: &TokenId) -> u128
+pub(crate) fn held<L: Confined, F: Book, S: Book>(world: &World<L, F, S>, token: &TokenId) -> u128
     ensures sum { result ≡ held_in (view L.Ledger.meaning F.Book.meaning S.Book.meaning world.now) (token_view token.now) }
     ensures within { result ≤ 256 * 18446744073709551615 }
 {
@@ -127,7 +127,7 @@ pub(crate) fn held<L: Ledger, F: Book, S: Book>(world: &World<L, F, S>, token: &
 }
 
 // What the account of an end's channel has of the denomination with a number.
-pub(crate) fn escrow_at<L: Ledger, F: Book, S: Book>(
+pub(crate) fn escrow_at<L: Confined, F: Book, S: Book>(
     world: &World<L, F, S>,
     near: &End,
     number: usize,
@@ -144,7 +144,7 @@ pub(crate) fn escrow_at<L: Ledger, F: Book, S: Book>(
 }
 
 // The whole supply of a denomination's voucher at the far end.
-pub(crate) fn vouchers_of<L: Ledger, F: Book, S: Book>(
+pub(crate) fn vouchers_of<L: Confined, F: Book, S: Book>(
     world: &World<L, F, S>,
     far: &End,
     denomination: &Denomination,
@@ -158,7 +158,7 @@ pub(crate) fn vouchers_of<L: Ledger, F: Book, S: Book>(
 }
 
 // What the open packets on a lane with a denomination's voucher, behind the far end's channel, carry.
-fn open_vouchers<L: Ledger, F: Book, S: Book>(
+fn open_vouchers<L: Confined, F: Book, S: Book>(
     world: &World<L, F, S>,
     lane: usize,
     far: &End,
@@ -174,7 +174,7 @@ fn open_vouchers<L: Ledger, F: Book, S: Book>(
 }
 
 // What the open packets of a route's link carry, outward with a denomination and homeward with its voucher.
-pub(crate) fn open_across<L: Ledger, F: Book, S: Book>(
+pub(crate) fn open_across<L: Confined, F: Book, S: Book>(
     world: &World<L, F, S>,
     route: &Route,
     homeward: usize,

@@ -11,12 +11,12 @@ use super::columns::{
 use super::lines::{put_counts, put_escrow, put_token};
 use super::slots::{Entry, Slot};
 use books::Book;
-use ledger::Ledger;
+use ledger::{Confined, Ledger};
 use protocol::DENOMINATIONS;
 use world::World;
 
 // How many slots there are.
-pub(crate) fn count_slots<L: Ledger, F: Book, S: Book>(world: &World<L, F, S>) -> usize
+pub(crate) fn count_slots<L: Confined, F: Book, S: Book>(world: &World<L, F, S>) -> usize
     ensures { result ≡ slots (view L.Ledger.meaning F.Book.meaning S.Book.meaning world.now) }
 {
     let tokens = world.tables().tokens.len();
@@ -25,7 +25,7 @@ pub(crate) fn count_slots<L: Ledger, F: Book, S: Book>(world: &World<L, F, S>) -
 }
 
 // The slot at a place.
-pub(crate) fn slot_of<L: Ledger, F: Book, S: Book>(world: &World<L, F, S>, place: usize) -> Slot
+pub(crate) fn slot_of<L: Confined, F: Book, S: Book>(world: &World<L, F, S>, place: usize) -> Slot
     ensures { result ≡ slot_at (length (view L.Ledger.meaning F.Book.meaning S.Book.meaning world.now).tokens) place }
 {
     let tokens = world.tables().tokens.len();
@@ -43,7 +43,7 @@ pub(crate) fn slot_of<L: Ledger, F: Book, S: Book>(world: &World<L, F, S>, place
 }
 
 // The escrow of a denomination, by its number, at the end that a lane leads from, if there is any.
-pub(crate) fn entry_at<L: Ledger, F: Book, S: Book>(
+pub(crate) fn entry_at<L: Confined, F: Book, S: Book>(
     world: &World<L, F, S>,
     lane: usize,
     number: usize,
@@ -70,7 +70,7 @@ pub(crate) fn entry_at<L: Ledger, F: Book, S: Book>(
 }
 
 // Writes the line of the counts.
-fn write_counts<L: Ledger, F: Book, S: Book>(world: &World<L, F, S>, buffer: &mut [u8]) -> usize
+fn write_counts<L: Confined, F: Book, S: Book>(world: &World<L, F, S>, buffer: &mut [u8]) -> usize
     requires { 256 ≤ length buffer.old }
     ensures length { result ≡ length (count_line (view L.Ledger.meaning F.Book.meaning S.Book.meaning world.now)) }
     ensures buffer { buffer.new ≡ over (count_line (view L.Ledger.meaning F.Book.meaning S.Book.meaning world.now)) buffer.old }
@@ -83,7 +83,7 @@ fn write_counts<L: Ledger, F: Book, S: Book>(world: &World<L, F, S>, buffer: &mu
 }
 
 // Writes the line of a token, by its number.
-fn write_token<L: Ledger, F: Book, S: Book>(
+fn write_token<L: Confined, F: Book, S: Book>(
     world: &World<L, F, S>,
     number: usize,
     buffer: &mut [u8],
@@ -105,7 +105,7 @@ fn write_token<L: Ledger, F: Book, S: Book>(
 }
 
 // Writes the line of an escrow.
-fn write_escrow<L: Ledger, F: Book, S: Book>(
+fn write_escrow<L: Confined, F: Book, S: Book>(
     world: &World<L, F, S>,
     lane: usize,
     number: usize,
@@ -134,7 +134,7 @@ fn write_escrow<L: Ledger, F: Book, S: Book>(
 }
 
 // Writes the line of a slot over the front of a buffer, if the slot has one, and answers its length.
-pub(crate) fn write_slot<L: Ledger, F: Book, S: Book>(
+pub(crate) fn write_slot<L: Confined, F: Book, S: Book>(
     world: &World<L, F, S>,
     slot: Slot,
     buffer: &mut [u8],
@@ -154,7 +154,7 @@ pub(crate) fn write_slot<L: Ledger, F: Book, S: Book>(
 }
 
 // Whether a slot has a line.
-pub(crate) fn is_filled<L: Ledger, F: Book, S: Book>(world: &World<L, F, S>, slot: Slot) -> bool
+pub(crate) fn is_filled<L: Confined, F: Book, S: Book>(world: &World<L, F, S>, slot: Slot) -> bool
     ensures { result ≡ has_line (view L.Ledger.meaning F.Book.meaning S.Book.meaning world.now) slot }
 {
     match slot {

@@ -12,12 +12,12 @@ use super::entries::{count_slots, is_filled, slot_of, write_slot};
 use super::slots::Slot;
 use books::Book;
 use figures::Sink;
-use ledger::Ledger;
+use ledger::{Confined, Ledger};
 use protocol::{AuditFault, LINE_ROOM};
 use world::World;
 
 // Hands the line of a slot to a sink, if the slot has one.
-fn put_slot<L: Ledger, F: Book, S: Book, O: Sink>(
+fn put_slot<L: Confined, F: Book, S: Book, O: Sink>(
     world: &World<L, F, S>,
     place: usize,
     buffer: &mut [u8],
@@ -34,7 +34,7 @@ fn put_slot<L: Ledger, F: Book, S: Book, O: Sink>(
 }
 
 /// Hands the lines of the audit to a sink, one after another. Where calls have reached the world, every line adds up.
-pub fn write_audit<L: Ledger, F: Book, S: Book, O: Sink>(
+pub fn write_audit<L: Confined, F: Book, S: Book, O: Sink>(
     world: &World<L, F, S>,
     out: &mut O,
 ) -> Result<(), O::Error>
@@ -49,7 +49,7 @@ pub fn write_audit<L: Ledger, F: Book, S: Book, O: Sink>(
 }
 
 // The slot that has line n.
-fn find_line<L: Ledger, F: Book, S: Book>(world: &World<L, F, S>, n: usize) -> Option<Slot>
+fn find_line<L: Confined, F: Book, S: Book>(world: &World<L, F, S>, n: usize) -> Option<Slot>
     ensures { MatchOption result (length (audit_lines (view L.Ledger.meaning F.Book.meaning S.Book.meaning world.now)) ≤ n) (λ s. Nth (view L.Ledger.meaning F.Book.meaning S.Book.meaning world.now) n s) }
 {
     let mut left = n;
@@ -68,7 +68,7 @@ fn find_line<L: Ledger, F: Book, S: Book>(world: &World<L, F, S>, n: usize) -> O
 /// Writes line n of the audit over the front of a buffer, and answers its length with LF. A buffer of less than 256 bytes, and a
 /// number that no line has, is refused and leaves the buffer as it was; otherwise the bytes behind the line keep their values.
 /// Where calls have reached the world, every line adds up.
-pub fn write_line<L: Ledger, F: Book, S: Book>(
+pub fn write_line<L: Confined, F: Book, S: Book>(
     world: &World<L, F, S>,
     n: usize,
     buffer: &mut [u8],

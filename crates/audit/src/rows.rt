@@ -13,7 +13,7 @@ ghost use Rattle.world.specs.View.{view};
 use super::balances::users_hold_at;
 use books::Book;
 use denom::{Denomination, TokenId};
-use ledger::Ledger;
+use ledger::{Confined, Ledger};
 use protocol::{CHAINS, DENOMINATIONS, LinkKind, Mark};
 use register::Key;
 use tables::{Link, Packet, Standing, Tables};
@@ -22,7 +22,7 @@ use world::World;
 
 // The denominations of a chain whose home is a token.
 #[derive(Clone, Copy)]
-pub struct Traces<'a, L: Ledger, F: Book, S: Book> {
+pub struct Traces<'a, L: Confined, F: Book, S: Book> {
     pub(crate) world: &'a World<L, F, S>,
     pub(crate) chain: usize,
     pub(crate) token: &'a TokenId,
@@ -30,14 +30,14 @@ pub struct Traces<'a, L: Ledger, F: Book, S: Book> {
 
 // The open packets of a token.
 #[derive(Clone, Copy)]
-pub struct OfToken<'a, L: Ledger, F: Book, S: Book> {
+pub struct OfToken<'a, L: Confined, F: Book, S: Book> {
     pub(crate) world: &'a World<L, F, S>,
     pub(crate) token: &'a TokenId,
 }
 
 // The open packets on a lane with a denomination.
 #[derive(Clone, Copy)]
-pub struct OnLane<'a, L: Ledger, F: Book, S: Book> {
+pub struct OnLane<'a, L: Confined, F: Book, S: Book> {
     pub(crate) world: &'a World<L, F, S>,
     pub(crate) lane: usize,
     pub(crate) denomination: &'a Denomination,
@@ -55,7 +55,7 @@ fn kind_of(links: &[Link], link: usize) -> LinkKind
 }
 
 // The mark of a packet, if it has one.
-fn mark_of<L: Ledger, F: Book, S: Book>(world: &World<L, F, S>, packet: &Packet) -> Option<Mark>
+fn mark_of<L: Confined, F: Book, S: Book>(world: &World<L, F, S>, packet: &Packet) -> Option<Mark>
     ensures { option_map mark_number result ≡ mark_at (view L.Ledger.meaning F.Book.meaning S.Book.meaning world.now) packet.now.lane packet.now.sequence }
 {
     let kind = kind_of(world.tables().links.as_slice(), packet.lane / 2);
@@ -63,7 +63,7 @@ fn mark_of<L: Ledger, F: Book, S: Book>(world: &World<L, F, S>, packet: &Packet)
 }
 
 // Whether a packet stands without a mark, or with one that is not good.
-fn is_open<L: Ledger, F: Book, S: Book>(world: &World<L, F, S>, packet: &Packet) -> bool
+fn is_open<L: Confined, F: Book, S: Book>(world: &World<L, F, S>, packet: &Packet) -> bool
     ensures { result ≡ packet-open (view L.Ledger.meaning F.Book.meaning S.Book.meaning world.now) (packet_view packet.now) }
 {
     match packet.standing {
@@ -108,7 +108,7 @@ fn home_of(tables: &Tables, chain: usize, denomination: &Denomination) -> TokenI
     }
 }
 
-impl<'a, L: Ledger, F: Book, S: Book> Row<Traces<'a, L, F, S>> for Denomination {
+impl<'a, L: Confined, F: Book, S: Book> Row<Traces<'a, L, F, S>> for Denomination {
     ghost amount = { λ w e d. gate (nat_lt w.chain 8 && nat_lt d 32) (users_hold (view L.Ledger.meaning F.Book.meaning S.Book.meaning w.world.now).ledger.balance w.chain d) };
 
     ghost counts = { λ w e d. same_token (home_of (view L.Ledger.meaning F.Book.meaning S.Book.meaning w.world.now).links w.chain (denom_view e)) (token_view w.token.now) };
@@ -127,7 +127,7 @@ impl<'a, L: Ledger, F: Book, S: Book> Row<Traces<'a, L, F, S>> for Denomination 
     }
 }
 
-impl<'a, L: Ledger, F: Book, S: Book> Row<OnLane<'a, L, F, S>> for Packet {
+impl<'a, L: Confined, F: Book, S: Book> Row<OnLane<'a, L, F, S>> for Packet {
     ghost amount = { λ w p i. p.amount };
 
     ghost counts = { λ w p i. packet-open (view L.Ledger.meaning F.Book.meaning S.Book.meaning w.world.now) (packet_view p) && on_lane_with w.lane (denom_view w.denomination.now) (packet_view p) };
@@ -143,7 +143,7 @@ impl<'a, L: Ledger, F: Book, S: Book> Row<OnLane<'a, L, F, S>> for Packet {
     }
 }
 
-impl<'a, L: Ledger, F: Book, S: Book> Row<OfToken<'a, L, F, S>> for Packet {
+impl<'a, L: Confined, F: Book, S: Book> Row<OfToken<'a, L, F, S>> for Packet {
     ghost amount = { λ w p i. p.amount };
 
     ghost counts = { λ w p i. packet-open (view L.Ledger.meaning F.Book.meaning S.Book.meaning w.world.now) (packet_view p) && of_token (view L.Ledger.meaning F.Book.meaning S.Book.meaning w.world.now) (token_view w.token.now) (packet_view p) };

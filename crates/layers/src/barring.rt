@@ -4,7 +4,7 @@ ghost use Rattle.protocol.specs.Ledger.{bar_set, cleared};
 ghost use Rattle.layers.specs.Layers.{barring as with-bars, barring_chains};
 ghost use Rattle.layers.specs.Laws.{barring_lawful, barring_unserved};
 
-use ledger::{Ledger, move_within, within};
+use ledger::{Confined, Ledger, move_within, within};
 use protocol::{LedgerFault, USERS};
 
 // At most so many chains are served.
@@ -70,8 +70,6 @@ impl<L: Ledger> Ledger for Barring<L> {
     ghost meaning = { λ b. with-bars b.flags (L.Ledger.meaning b.ledger) };
 
     ghost lawful = { λ b. barring_lawful b.flags (L.Ledger.meaning b.ledger) (L.Ledger.lawful b.ledger) };
-
-    ghost unserved = { λ b. barring_unserved b.flags (L.Ledger.meaning b.ledger) (L.Ledger.unserved b.ledger) };
 
     fn chains(&self) -> usize {
         let below = self.ledger.chains();
@@ -179,4 +177,8 @@ impl<L: Ledger> Ledger for Barring<L> {
         self.forget();
         self.ledger.clear();
     }
+}
+
+impl<L: Confined> Confined for Barring<L> {
+    ghost unserved = { λ b. barring_unserved b.flags (L.Ledger.meaning b.ledger) (L.Confined.unserved b.ledger) };
 }

@@ -3,7 +3,7 @@ ghost use Rattle.layers.specs.Layers.{beside as side_by_side};
 ghost use Rattle.layers.specs.Laws.{beside_lawful, beside_unserved};
 ghost use Rattle.layers.specs.Sides.{OnSide};
 
-use ledger::Ledger;
+use ledger::{Confined, Ledger};
 use protocol::LedgerFault;
 
 // At most so many chains are served.
@@ -51,8 +51,6 @@ impl<L: Ledger, R: Ledger> Ledger for Beside<L, R> {
     ghost meaning = { λ b. side_by_side (L.Ledger.meaning b.first) (R.Ledger.meaning b.second) };
 
     ghost lawful = { λ b. beside_lawful (L.Ledger.meaning b.first) (R.Ledger.meaning b.second) (L.Ledger.lawful b.first) (R.Ledger.lawful b.second) };
-
-    ghost unserved = { λ b. beside_unserved (L.Ledger.meaning b.first) (R.Ledger.meaning b.second) (L.Ledger.unserved b.first) (R.Ledger.unserved b.second) };
 
     fn chains(&self) -> usize {
         let first = self.first.chains();
@@ -162,4 +160,8 @@ impl<L: Ledger, R: Ledger> Ledger for Beside<L, R> {
         self.first.clear();
         self.second.clear();
     }
+}
+
+impl<L: Confined, R: Confined> Confined for Beside<L, R> {
+    ghost unserved = { λ b. beside_unserved (L.Ledger.meaning b.first) (R.Ledger.meaning b.second) (L.Confined.unserved b.first) (R.Confined.unserved b.second) };
 }

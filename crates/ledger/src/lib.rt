@@ -20,9 +20,6 @@ pub trait Ledger {
     // No supply passes 2^64 - 1, and a chain that serves no bars has no barred user.
     ghost lawful: { (l : Self) → Lawful (meaning l) };
 
-    // A chain 0 to 7 that is not served has no balance.
-    ghost unserved: { (l : Self) (c a d : ℕ) → c < chains_most → (meaning l).chains ≤ c → (meaning l).balance c a d ≡ 0 };
-
     /// How many chains are served.
     fn chains(&self) -> usize
         ensures { result ≡ (meaning self.now).chains };
@@ -106,4 +103,10 @@ pub trait Ledger {
     /// Empties all balances and the set of barred users.
     fn clear(&mut self)
         ensures { meaning self.new ≡ cleared (meaning self.old) };
+}
+
+/// A ledger that has nothing outside the chains that it serves.
+pub trait Confined: Ledger {
+    // A chain 0 to 7 that is not served has no balance.
+    ghost unserved: { (l : Self) (c a d : ℕ) → c < chains_most → (Self.meaning l).chains ≤ c → (Self.meaning l).balance c a d ≡ 0 };
 }

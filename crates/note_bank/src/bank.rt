@@ -11,7 +11,7 @@ ghost use Rattle.note_bank.specs.declared.place.Place.TheVariants.{Free};
 
 use crate::pairs;
 use crate::place::{Note, Place};
-use ledger::{Ledger, balance_within, move_within, total_within, user_within, within};
+use ledger::{Confined, Ledger, balance_within, move_within, total_within, user_within, within};
 use protocol::{ACCOUNTS, DENOMINATIONS, LedgerFault, USERS};
 use sums::{Column, add_up};
 
@@ -194,8 +194,6 @@ impl Ledger for NoteBank {
 
     ghost lawful = { λ b. notes_lawful b.places.items b.supplies };
 
-    ghost unserved = { λ b c a d _ h. notes_unserved b.places.items c a d h };
-
     fn chains(&self) -> usize {
         if self.places.len() < PLACES { 0 } else { 1 }
     }
@@ -286,4 +284,8 @@ impl Ledger for NoteBank {
         wipe(&mut self.places);
         self.used = 0;
     }
+}
+
+impl Confined for NoteBank {
+    ghost unserved = { λ b c a d _ h. notes_unserved b.places.items c a d h };
 }

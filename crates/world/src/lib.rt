@@ -11,4 +11,5 @@ mod send;
 mod settle;
 mod world;
 
+pub use tables::{Denominations, End, Link, Links, Packet, Packets, Standing, Tables, Tokens};
 pub use world::World;
