@@ -1,7 +1,7 @@
 ghost use Rattle.std.specs.Prelude.{◌≡◌, ◌<◌};
 ghost use Rattle.protocol.specs.Ledger.{supply as supply_of, users_hold};
 
-use ledger::{Confined, Ledger};
+use ledger::Confined;
 
 // What an account has of a denomination; nothing where the chain is not served.
 pub(crate) fn balance_at<L: Confined>(

@@ -14,7 +14,7 @@ use super::balances::{balance_at, supply_at};
 use super::rows::{OfToken, OnLane, Traces};
 use books::Book;
 use denom::{Denomination, TokenId};
-use ledger::{Confined, Ledger};
+use ledger::Confined;
 use protocol::{CHAINS, DENOMINATIONS, escrow_account};
 use register::find_in;
 use tables::{Denominations, End, Route, Tables};

@@ -11,7 +11,7 @@ use super::columns::{
 use super::lines::{put_counts, put_escrow, put_token};
 use super::slots::{Entry, Slot};
 use books::Book;
-use ledger::{Confined, Ledger};
+use ledger::Confined;
 use protocol::DENOMINATIONS;
 use world::World;
 

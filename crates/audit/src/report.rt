@@ -12,7 +12,7 @@ use super::entries::{count_slots, is_filled, slot_of, write_slot};
 use super::slots::Slot;
 use books::Book;
 use figures::Sink;
-use ledger::{Confined, Ledger};
+use ledger::Confined;
 use protocol::{AuditFault, LINE_ROOM};
 use world::World;
 

@@ -13,7 +13,7 @@ ghost use Rattle.world.specs.View.{view};
 use super::balances::users_hold_at;
 use books::Book;
 use denom::{Denomination, TokenId};
-use ledger::{Confined, Ledger};
+use ledger::Confined;
 use protocol::{CHAINS, DENOMINATIONS, LinkKind, Mark};
 use register::Key;
 use tables::{Link, Packet, Standing, Tables};
