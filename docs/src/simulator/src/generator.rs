@@ -632,12 +632,12 @@ impl Generator {
         let choices: Vec<String> = match old.kind {
             Kind::Name => NAMES.map(String::from).to_vec(),
             Kind::Chain => numbers(&[1 - number.min(1), 2, 7, 8, 255, 256]),
-            Kind::Channel => numbers(&[number + 1, 0, 7, 8, 9, 16, 256]),
+            Kind::Channel => numbers(&[number.saturating_add(1), 0, 7, 8, 9, 16, 256]),
             Kind::User => numbers(&[15, 16, 17, 23, 24, 256]),
             Kind::Amount => numbers(&[0, number.saturating_add(1), u64::MAX, u64::MAX - 1, 0]),
-            Kind::Link => numbers(&[number + 1, self.world().links.len() as u64, 7, 15, 16, 32]),
+            Kind::Link => numbers(&[number.saturating_add(1), self.world().links.len() as u64, 7, 15, 16, 32]),
             Kind::Direction => numbers(&[1 - number.min(1), 2, 3, 256]),
-            Kind::Sequence => numbers(&[0, number + 1, number.saturating_sub(1), 512, 513, 600, number + 2]),
+            Kind::Sequence => numbers(&[0, number.saturating_add(1), number.saturating_sub(1), 512, 513, 600, number.saturating_add(2)]),
             Kind::Height => {
                 let chain = self.random.below(CHAINS);
                 let height = self.world().chains[chain].height;
