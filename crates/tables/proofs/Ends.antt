@@ -64,30 +64,7 @@ passed_all p ls i past within inv =
     let out : ltb (place p (ends_of ls)) (length (ends_of ls)) ≡ false = le-ltb (place p (ends_of ls)) (length (ends_of ls)) (omega (arith, end, inv, length_ends_of ls)) in
     sym (rw out refl)
 
--- The lowest number below n that passes a test, searched from k on.
-module _ (q : ℕ → Bool) (n k : ℕ) where
-  abbrev pub Searched : Type 0
-  Searched = place q (numbers_from k (n - k)) + k ≡ place q (numbers_from 0 n)
-
-  one_number : k < n → place q (numbers_from k (n - k)) ≡ cond (q k) 0 (suc (place q (numbers_from (k + 1) (n - (k + 1)))))
-  one_number h =
-      let e : n - k ≡ suc (n - (k + 1)) = omega arith in
-      let next : suc k ≡ k + 1 = omega arith in
-      ap (λ m. place q (numbers_from k m)) e ∙ ap (λ j. cond (q k) 0 (suc (place q (numbers_from j (n - (k + 1)))))) next
-
-  pub lowest_here : k < n → Searched → q k ≡ true → k ≡ place q (numbers_from 0 n)
-  lowest_here h inv e =
-      let here : place q (numbers_from k (n - k)) ≡ 0 = rw e at (one_number h) in
-      omega (arith, here, inv)
-
-  lowest_not : k < n → q k ≡ false → place q (numbers_from k (n - k)) ≡ suc (place q (numbers_from (k + 1) (n - (k + 1))))
-  lowest_not h e = rw e at (one_number h)
-
-  pub lowest_none : n ≤ k → k ≤ n → Searched → n ≡ place q (numbers_from 0 n)
-  lowest_none h l inv =
-      let z : n - k ≡ 0 = omega arith in
-      let none : place q (numbers_from k (n - k)) ≡ 0 = ap (λ m. place q (numbers_from k m)) z in
-      omega (arith, none, inv)
-
-pub searched_more : (q : ℕ → Bool) (n k : ℕ) → k < n → Searched q n k → q k ≡ false → Searched q n (k + 1)
-searched_more q n k h inv e = omega (arith, lowest_not q n k h e, inv)
+-- the first of n numbers from k on that passes a test, and its place among them
+first_number : (q : ℕ → Bool) (n k : ℕ) → find q (range_with_len k n) ≡ cond (ltb (place q (numbers_from k n)) n) (Some (k + place q (numbers_from k n))) None
+first_number q zero k = refl
+first_number q (suc n) k = ?

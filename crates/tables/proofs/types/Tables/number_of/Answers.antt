@@ -4,9 +4,10 @@ use Rattle.register.specs.Keys.{number_of}
 use Rattle.register.proofs.Places.{number_below}
 use Rattle.denom.specs.Denomination.{same_denom}
 use Rattle.denom.specs.Views.{denom_view}
-use Rattle.tables.specs.declared.types.Denominations.{Denominations}
+use Rattle.denom.specs.declared.types.Denomination.{Denomination}
+use Rattle.tables.specs.declared.types.Rows.{Rows}
 use Rattle.tables.specs.View.{denoms_in, denoms_of, no_denominations}
-use Rattle.tables.proofs.Rows.{few_denoms}
+use Rattle.tables.proofs.Taken.{few_denoms}
 use Rattle.tables.proofs.types.Tables.number_of.Goals as goal
 
 pub returns : goal.returns
@@ -17,7 +18,7 @@ returns c =
     let within : chain < length rows = omega arith in
     let found : c.number_of.result ≡ number_of same (denoms_of rows chain) =
     c.number_of.ensures
-    ∙ ap (λ (r : Denominations). number_of same (denoms_in r)) (get_or_default rows chain c.index-self-chain.result no_denominations within)
+    ∙ ap (λ (r : Rows Denomination 32). number_of same (denoms_in r)) (get_or_default rows chain c.index-self-chain.result no_denominations within)
     in
     record {
       number = found;
