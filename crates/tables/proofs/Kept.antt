@@ -1,5 +1,8 @@
 -- Keys of the code and what they stand for: a search finds the same number among both, and a key offered joins both.
-use Rattle.std.proofs.Common.{◌≡◌, ℕ, suc, ◌+◌, ◌≤◌, Bool, true, false, cond, ltb, List, [], ◌∷◌, ◌++◌, map, length, take, set, Some, None, Option, sym, refl, ap, ◌∙◌, arith, ltb-true, lt-ltb, length-take-le, ◌||◌}
+use Rattle.std.proofs.Common.{◌≡◌, ℕ, suc, ◌+◌, ◌≤◌, Bool, true, false, cond, ltb, List, [], ◌∷◌, ◌++◌, map, length, take, set, Some, None, Option, sym, refl, ap, ◌∙◌, arith, ltb-true, ltb-false, lt-ltb, le-ltb, leb-true, leb-false, length-take-le, not, leb, ◌&&◌, ◌||◌}
+use Rattle.std.specs.Option.{option_or}
+use Rattle.std.specs.Bool.{then_some}
+use Rattle.register.proofs.Places.{place_le}
 use Rattle.std.specs.List.{position, position_or_len, list_any}
 use Rattle.std.proofs.lemmas.List.{map_push, take_more_set}
 use Rattle.std.proofs.lemmas.Bool.Decides.{nat_tests}
@@ -71,3 +74,20 @@ joined_seen f room k xs None = go (ltb (length xs) room) ∙ (λ i. cond (ltb (s
     go : (b : Bool) → map f (cond b (xs ++ k ∷ []) xs) ≡ cond b (map f xs ++ f k ∷ []) (map f xs)
     go true = map_push f xs k
     go false = refl
+
+-- the number of a key, or else the next one where there is room for it
+pub number_or_next :
+    {X : Type 0} (p : X → Bool) (xs : List X) (room : ℕ) →
+    option_or (number_of p xs) (then_some (ltb (length xs) room) (length xs)) ≡ cond (not (found p xs) && leb room (length xs)) None (Some (place p xs))
+number_or_next p xs room = go (found p xs) refl
+  where
+    n : ℕ
+    n = length xs
+
+    next : (b : Bool) → leb room n ≡ b → place p xs ≡ n → then_some (ltb n room) n ≡ cond b None (Some (place p xs))
+    next true t e = rw (le-ltb n room (leb-true room n t)) refl
+    next false t e = rw (lt-ltb n room (leb-false room n t)) (ap Some (sym e))
+
+    go : (b : Bool) → found p xs ≡ b → option_or (cond b (Some (place p xs)) None) (then_some (ltb n room) n) ≡ cond (not b && leb room n) None (Some (place p xs))
+    go true t = refl
+    go false t = next (leb room n) refl (omega (arith, ltb-false (place p xs) n t, place_le p xs))

@@ -15,8 +15,7 @@ impl Tables {
         requires { chain < 8 }
         ensures { result ≡ length (denoms_of self.now.denominations chain) }
     {
-        let row = &self.denominations[chain];
-        row.len()
+        self.denominations[chain].len()
     }
 
     /// The number of a denomination on a chain, below 32, or nothing.
@@ -25,8 +24,7 @@ impl Tables {
         ensures number { result ≡ number_of (same_denom (denom_view denomination.now)) (denoms_of self.now.denominations chain) }
         ensures small { IfSome result (λ n. n < 32) }
     {
-        let row = &self.denominations[chain];
-        row.number_of(denomination)
+        self.denominations[chain].number_of(denomination)
     }
 
     /// The number that a denomination has on a chain or would get, or nothing where it is new and the register is full.
@@ -34,15 +32,8 @@ impl Tables {
         requires { chain < 8 }
         ensures { result ≡ number_for (denom_view denomination.now) (denoms_of self.now.denominations chain) }
     {
-        match self.number_of(chain, denomination) {
-            Some(number) => Some(number),
-            None => {
-                let next = self.registered_on(chain);
-                if next >= DENOMINATIONS {
-                    return None;
-                }
-                Some(next)
-            }
-        }
+        let next = self.registered_on(chain);
+        self.number_of(chain, denomination)
+            .or((next < DENOMINATIONS).then_some(next))
     }
 }

@@ -1,7 +1,7 @@
-ghost use Rattle.std.specs.Prelude.{◌≡◌, ◌<◌, map, MatchOption};
+ghost use Rattle.std.specs.Prelude.{◌≡◌, ◌<◌, not, map, MatchOption};
 ghost use Rattle.register.specs.Keys.{number_of};
 ghost use Rattle.protocol.specs.House.{channels_most};
-ghost use Rattle.protocol.specs.World.{same_end, end_at, ends, lowest_unused as lowest};
+ghost use Rattle.protocol.specs.World.{same_end, end_at, ends, in_use, lowest_unused as lowest};
 ghost use Rattle.tables.specs.View.{end_view, link_view};
 
 use super::types::{End, Link};
@@ -31,9 +31,16 @@ pub(crate) fn lane_out(links: &[Link], chain: usize, channel: usize) -> Option<u
     None
 }
 
+// Whether a channel of a chain is not in use.
+fn is_unused(links: &[Link], chain: usize, channel: usize) -> bool
+    ensures { result ≡ not (in_use (map link_view links.now) chain channel) }
+{
+    lane_out(links, chain, channel).is_none()
+}
+
 /// A chain's lowest unused channel, or nothing where all are used.
 pub fn lowest_unused(links: &[Link], chain: usize) -> Option<usize>
     ensures { MatchOption result (lowest (map link_view links.now) chain ≡ channels_most) (λ c. (c ≡ lowest (map link_view links.now) chain) × (c < channels_most)) }
 {
-    (0..CHANNELS).find(|channel| lane_out(links, chain, *channel).is_none())
+    (0..CHANNELS).find(|channel| is_unused(links, chain, *channel))
 }

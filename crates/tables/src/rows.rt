@@ -4,7 +4,7 @@ ghost use Rattle.tables.specs.Registers.{joined};
 ghost use Rattle.tables.specs.Rows.{rows_of};
 
 use super::types::Rows;
-use register::{Key, Register, find_in};
+use register::{Register, find_in};
 
 impl<T: Copy, const N: usize> Rows<T, N> {
     // No rows; the free places hold `blank`.
@@ -60,11 +60,11 @@ impl<T: Copy, const N: usize> Rows<T, N> {
 }
 
 // Offers a key to a register over the first `count` places of `keys`, and answers its number.
-fn offer<K: Key>(keys: &mut [K], count: &mut usize, key: K) -> Option<usize>
+fn offer<K: Eq + Copy>(keys: &mut [K], count: &mut usize, key: K) -> Option<usize>
     requires { count.old ≤ length keys.old }
-    ensures answer { result ≡ kept_number (length keys.old) count.old (number_of (K.same key) (take count.old keys.old)) }
-    ensures count { count.new ≡ kept_count (length keys.old) count.old (number_of (K.same key) (take count.old keys.old)) }
-    ensures keys { keys.new ≡ kept keys.old count.old key (number_of (K.same key) (take count.old keys.old)) }
+    ensures answer { result ≡ kept_number (length keys.old) count.old (number_of (K.eq key) (take count.old keys.old)) }
+    ensures count { count.new ≡ kept_count (length keys.old) count.old (number_of (K.eq key) (take count.old keys.old)) }
+    ensures keys { keys.new ≡ kept keys.old count.old key (number_of (K.eq key) (take count.old keys.old)) }
 {
     let mut register = Register::over(keys, *count);
     let number = register.enter(key);
@@ -72,18 +72,18 @@ fn offer<K: Key>(keys: &mut [K], count: &mut usize, key: K) -> Option<usize>
     number
 }
 
-impl<K: Key, const N: usize> Rows<K, N> {
+impl<K: Eq + Copy, const N: usize> Rows<K, N> {
     /// The number of a key, or nothing.
     pub fn number_of(&self, key: &K) -> Option<usize>
-        ensures { result ≡ number_of (K.same key.now) (rows_of self.now) }
+        ensures { result ≡ number_of (K.eq key.now) (rows_of self.now) }
     {
         find_in(self.as_slice(), key)
     }
 
     /// The number of a key, which is put behind the others where it is new; nothing where there is no room for it.
     pub fn enter(&mut self, key: K) -> Option<usize>
-        ensures answer { result ≡ kept_number N (length (rows_of self.old)) (number_of (K.same key) (rows_of self.old)) }
-        ensures after { rows_of self.new ≡ joined N key (rows_of self.old) (number_of (K.same key) (rows_of self.old)) }
+        ensures answer { result ≡ kept_number N (length (rows_of self.old)) (number_of (K.eq key) (rows_of self.old)) }
+        ensures after { rows_of self.new ≡ joined N key (rows_of self.old) (number_of (K.eq key) (rows_of self.old)) }
     {
         offer(&mut self.places, &mut self.count, key)
     }

@@ -9,7 +9,7 @@ returns g c =
     let table = c.args.self.now in
     let full : length table.places ≡ g.row.N = omega arith in
     let within : table.count ≤ length table.places = omega (arith, table.few) in
-    let known = number_of (g.K.Key.same c.args.key) (rows_of table) in
+    let known = number_of (g.K.PartialEq.eq c.args.key) (rows_of table) in
     let gave = c.offer.ensures in
     record {
       answer = gave.answer ∙ offer_answered table.places table.count g.row.N full within known;
