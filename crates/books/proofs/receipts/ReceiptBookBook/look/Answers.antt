@@ -1,12 +1,12 @@
 use Rattle.std.proofs.Common.{arith}
 use Rattle.std.proofs.lemmas.Bool.Decides.{nat_tests}
 use Rattle.books.specs.Table.{mark_in}
-use Rattle.books.proofs.marks.Marks.look.Goals as goal
+use Rattle.books.proofs.receipts.ReceiptBookBook.look.Goals as goal
 
 pub returns-then-lane-ge-LANES : goal.returns-then-lane-ge-LANES
 unfolding mark_in
-returns-then-lane-ge-LANES c = grind (arith, nat_tests)
+returns-then-lane-ge-LANES g c = grind (arith, nat_tests)
 
 pub returns : goal.returns
 unfolding mark_in
-returns c = grind (arith, nat_tests)
+returns g c = grind (arith, nat_tests)
