@@ -36,7 +36,7 @@ module _ (xs : List ℕ) (a d v : ℕ) (long : 768 ≤ length xs) (ha : a < 24) 
   balances_set = fun_ext λ c'. fun_ext λ a'. fun_ext λ d'. set_each c' a' d'
 
 -- a column of the first n accounts, added up
-pub column_sum : (xs : List ℕ) (w : Column) → 768 ≤ length xs → w.to ≤ 24 → w.from ≡ 0 → w.denomination < 32 → counted (λ x. x) (in_column w) xs ≡ sum_below w.to (λ a. table_balances xs 0 a w.denomination)
+pub column_sum : (xs : List ℕ) (w : Column) → 768 ≤ length xs → w.to ≤ 24 → w.from ≡ 0 → w.denomination < 32 → counted (λ x i. x) (in_column w) xs ≡ sum_below w.to (λ a. table_balances xs 0 a w.denomination)
 unfolding table_balances
 column_sum xs w long few all known =
     column_counted w xs (omega arith) known

@@ -1,10 +1,9 @@
 -- What the adding-up routine gives over packets and registers, in the words of the model.
 use Rattle.std.proofs.Common.{◌≡◌, ℕ, ◌+◌, ◌<◌, ◌≤◌, Bool, true, false, ◌&&◌, ltb, List, [], ◌∷◌, map, length, get_or, take, Some, None, sym, refl, ap, ◌∙◌, add-one, arith, length-take, lt-ltb}
 use lib.ListN.{length-map}
-use Rattle.sums.specs.Sums.{sum_below, total, gate}
-use Rattle.totals.specs.Totals.{counted, counted_from}
+use Rattle.sums.specs.Sums.{sum_below, total, gate, counted, counted_from}
 use Rattle.sums.proofs.Below.{sum_same}
-use Rattle.totals.proofs.Counted.{counted_total, counted_below}
+use Rattle.sums.proofs.Counted.{counted_total, counted_below}
 use Rattle.register.specs.Keys.{number_of, found}
 use Rattle.denom.specs.Denomination.{Denom, Token, same_denom, same_token}
 use Rattle.denom.specs.declared.types.Denomination.{Denomination}

@@ -17,8 +17,8 @@ use denom::{Denomination, TokenId};
 use ledger::Confined;
 use protocol::{CHAINS, DENOMINATIONS, escrow_account};
 use register::find_in;
+use sums::add_up;
 use tables::{Denominations, End, Route, Tables};
-use totals::add_up;
 use world::World;
 
 // A chain's denominations; none where there is no such chain.

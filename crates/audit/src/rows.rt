@@ -16,8 +16,8 @@ use denom::{Denomination, TokenId};
 use ledger::Confined;
 use protocol::{CHAINS, DENOMINATIONS, LinkKind, Mark};
 use register::Key;
+use sums::Row;
 use tables::{Link, Packet, Standing, Tables};
-use totals::Row;
 use world::World;
 
 // The denominations of a chain whose home is a token.

@@ -120,8 +120,8 @@ module _ (xs : List Place) (i : ℕ) (n : Note) (long : 1024 ≤ length xs) (wit
   note_added = balances_put xs (set xs i (Held n)) n.owner n.denomination _ long (length-set xs i (Held n)) ha hd added_each
 
 -- the adding-up routine: which places count does not depend on their number
-column_total : (w : Column) (xs : List Place) → counted amount_of (note_in w) xs ≡ total (λ p. gate (note_in w p 0) (amount_of p)) xs
-column_total w xs = counted_total amount_of (note_in w) (λ p. note_in w p 0) same xs
+column_total : (w : Column) (xs : List Place) → counted (λ p i. amount_of p) (note_in w) xs ≡ total (λ p. gate (note_in w p 0) (amount_of p)) xs
+column_total w xs = counted_total (λ p i. amount_of p) (note_in w) amount_of (λ p. note_in w p 0) (λ p i. refl) same xs
   where
     same : (p : Place) (i : ℕ) → note_in w p i ≡ note_in w p 0
     same Free i = refl
@@ -132,7 +132,7 @@ one_share : (w : Column) (a : ℕ) → w.from ≡ a → w.to ≡ a + 1 → (p : 
 one_share w a e f Free = refl
 one_share w a e f (Held n) = grind (arith, nat_tests)
 
-account_held : (w : Column) (xs : List Place) (a : ℕ) → w.from ≡ a → w.to ≡ a + 1 → counted amount_of (note_in w) xs ≡ held xs a w.denomination
+account_held : (w : Column) (xs : List Place) (a : ℕ) → w.from ≡ a → w.to ≡ a + 1 → counted (λ p i. amount_of p) (note_in w) xs ≡ held xs a w.denomination
 unfolding held
 account_held w xs a e f = column_total w xs ∙ total_same _ _ (one_share w a e f) xs
 
@@ -178,13 +178,13 @@ held_front (suc n) (x ∷ xs) rest a d =
 
 -- and adding up the front gives the balances
 module _ (w : Column) (n : ℕ) (xs : List Place) (rest : FreeFrom n xs) (long : 1024 ≤ length xs) (known : w.denomination < 32) where
-  pub account_counted : (a : ℕ) → w.from ≡ a → w.to ≡ a + 1 → a < 24 → counted amount_of (note_in w) (take n xs) ≡ note_balances xs 0 a w.denomination
+  pub account_counted : (a : ℕ) → w.from ≡ a → w.to ≡ a + 1 → a < 24 → counted (λ p i. amount_of p) (note_in w) (take n xs) ≡ note_balances xs 0 a w.denomination
   account_counted a e f h =
       account_held w (take n xs) a e f
       ∙ held_front n xs rest a w.denomination
       ∙ sym (balance_held xs a w.denomination long h known)
 
-  pub column_counted : w.from ≡ 0 → w.to ≤ 24 → counted amount_of (note_in w) (take n xs) ≡ sum_below w.to (λ a. note_balances xs 0 a w.denomination)
+  pub column_counted : w.from ≡ 0 → w.to ≤ 24 → counted (λ p i. amount_of p) (note_in w) (take n xs) ≡ sum_below w.to (λ a. note_balances xs 0 a w.denomination)
   column_counted e few =
       column_total w (take n xs)
       ∙ column_held w e (take n xs)

@@ -17,14 +17,12 @@ pub enum Place {
     Held(Note),
 }
 
-impl Row for Place {
-    type Which = Column;
-
-    ghost amount = { amount_of };
+impl Row<Column> for Place {
+    ghost amount = { λ w p i. amount_of p };
 
     ghost counts = { note_in };
 
-    fn worth(&self) -> u64 {
+    fn worth(&self, _which: &Column, _place: usize) -> u64 {
         match self {
             Place::Free => 0,
             Place::Held(note) => note.amount,

@@ -23,10 +23,10 @@ module _ (w : Column) (xs : List ℕ) (long : w.to * 32 ≤ length xs) (known : 
   row a k ha hk = rw (digits_div a hk, digits_mod a hk) (grind (arith, nat_tests))
 
   -- the column's amounts, account by account
-  pub column_counted : counted (λ x. x) (in_column w) xs ≡ sum_below w.to (λ a. gate (leb w.from a) (get_or xs (a * 32 + w.denomination) 0))
+  pub column_counted : counted (λ x i. x) (in_column w) xs ≡ sum_below w.to (λ a. gate (leb w.from a) (get_or xs (a * 32 + w.denomination) 0))
   unfolding term
   column_counted =
-      counted_below (λ x. x) (in_column w) 0 xs
+      counted_below (λ x i. x) (in_column w) 0 xs
       ∙ sum_beyond (w.to * 32) (length xs) term long (λ i l u. past i l)
       ∙ sum_table w.to 32 term
       ∙ sum_same w.to _ _ (λ a h.

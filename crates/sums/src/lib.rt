@@ -1,36 +1,34 @@
 // The one adding-up routine: the amounts of those rows of a slice that count, whatever the rows are.
 #![tactic(auto)]
 
-ghost use Rattle.std.specs.Prelude.{◌≡◌, ℕ, Bool};
-ghost use Rattle.sums.specs.Sums.{counted};
+ghost use Rattle.std.specs.Prelude.{◌≡◌, ℕ, ◌*◌, ◌≤◌, Bool, length};
+ghost use Rattle.sums.specs.Sums.{counted, amount_held, held_counts};
 ghost use Rattle.sums.specs.Columns.{in_column};
 
-/// A row that has an amount, and that counts in a sum or not; its place in the slice may decide.
-pub trait Row {
-    /// Which rows are wanted.
-    type Which;
+/// A row that has an amount, and that counts in a sum or not, by what is wanted and by its place in the slice.
+pub trait Row<Which> {
+    ghost amount: { Which → Self → ℕ → ℕ };
 
-    ghost amount: { Self → ℕ };
+    ghost counts: { Which → Self → ℕ → Bool };
 
-    ghost counts: { Self.Which → Self → ℕ → Bool };
+    /// The amount of the row at this place.
+    fn worth(&self, which: &Which, place: usize) -> u64
+        ensures { result ≡ amount which.now self.now place };
 
-    /// The row's amount.
-    fn worth(&self) -> u64
-        ensures { result ≡ amount self.now };
-
-    /// Whether the row, at this place, is one of those wanted.
-    fn chosen(&self, which: &Self::Which, place: usize) -> bool
+    /// Whether the row at this place is one of those wanted.
+    fn chosen(&self, which: &Which, place: usize) -> bool
         ensures { result ≡ counts which.now self.now place };
 }
 
 /// The sum of the amounts of the rows wanted. It fits, whatever the amounts.
-pub fn add_up<R: Row>(rows: &[R], which: &R::Which) -> u128
-    ensures { result ≡ counted R.Row.amount (R.Row.counts which.now) rows.now }
+pub fn add_up<Which, R: Row<Which>>(rows: &[R], which: &Which) -> u128
+    ensures sum { result ≡ counted (R.Row.amount which.now) (R.Row.counts which.now) rows.now }
+    ensures within { result ≤ length rows.now * 18446744073709551615 }
 {
     let mut sum: u128 = 0;
     for (place, row) in rows.iter().enumerate() {
         if row.chosen(which, place) {
-            sum += u128::from(row.worth());
+            sum += u128::from(row.worth(which, place));
         }
     }
     sum
@@ -48,19 +46,38 @@ pub struct Column {
     pub to: usize,
 }
 
-impl Row for u64 {
-    type Which = Column;
-
-    ghost amount = { λ x. x };
+impl Row<Column> for u64 {
+    ghost amount = { λ w x i. x };
 
     ghost counts = { in_column };
 
-    fn worth(&self) -> u64 {
+    fn worth(&self, _which: &Column, _place: usize) -> u64 {
         *self
     }
 
     fn chosen(&self, which: &Column, place: usize) -> bool {
         let account = place / DENOMINATIONS;
         place % DENOMINATIONS == which.denomination && which.from <= account && account < which.to
+    }
+}
+
+/// A place that may hold a row: an empty one is worth nothing, and is never wanted.
+impl<Which, R: Row<Which>> Row<Which> for Option<R> {
+    ghost amount = { λ w. amount_held (R.Row.amount w) };
+
+    ghost counts = { λ w. held_counts (R.Row.counts w) };
+
+    fn worth(&self, which: &Which, place: usize) -> u64 {
+        match self {
+            Some(row) => row.worth(which, place),
+            None => 0,
+        }
+    }
+
+    fn chosen(&self, which: &Which, place: usize) -> bool {
+        match self {
+            Some(row) => row.chosen(which, place),
+            None => false,
+        }
     }
 }

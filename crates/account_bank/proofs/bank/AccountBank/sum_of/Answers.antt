@@ -9,7 +9,7 @@ use Rattle.account_bank.proofs.bank.AccountBank.sum_of.Goals as goal
 sum_is : (c : goal.After-add_up) → c.add_up.result ≡ sum_below c.args.accounts (λ a. table_balances (vec_items c.args.self.now.amounts) 0 a c.args.denomination)
 sum_is c =
     let l = c.args.self.now.amounts.ok.0 in
-    (rw c.as_slice.ensures.value at c.add_up.ensures)
+    (rw c.as_slice.ensures.value at c.add_up.ensures.sum)
     ∙ column_sum (vec_items c.args.self.now.amounts) (record { denomination = c.args.denomination; from = 0; to = c.args.accounts }) (omega arith) c.requires.accounts refl c.requires.denomination
 
 -- it is at most the supply

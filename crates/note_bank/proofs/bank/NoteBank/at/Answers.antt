@@ -9,7 +9,7 @@ balance-is : (c : goal.After-add_up) → c.add_up.result ≡ note_balances (vec_
 balance-is c =
     let bank = c.args.self.now in
     let l = bank.places.ok.0 in
-    (rw c.front.ensures at c.add_up.ensures)
+    (rw c.front.ensures at c.add_up.ensures.sum)
     ∙ account_counted (record { denomination = c.args.denomination; from = c.args.account; to = c.args.account + 1 }) bank.used (vec_items bank.places) bank.rest (omega arith) c.requires.denomination c.args.account refl refl c.requires.account
 
 -- it is at most the supply

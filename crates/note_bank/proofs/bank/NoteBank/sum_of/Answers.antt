@@ -10,7 +10,7 @@ sum_is : (c : goal.After-add_up) → c.add_up.result ≡ sum_below c.args.accoun
 sum_is c =
     let bank = c.args.self.now in
     let l = bank.places.ok.0 in
-    (rw c.front.ensures at c.add_up.ensures)
+    (rw c.front.ensures at c.add_up.ensures.sum)
     ∙ column_counted (record { denomination = c.args.denomination; from = 0; to = c.args.accounts }) bank.used (vec_items bank.places) bank.rest (omega arith) c.requires.denomination refl c.requires.accounts
 
 -- it is at most the supply
