@@ -1,7 +1,7 @@
 use account_bank::AccountBank;
 use layers::{Barring, Beside};
 use ledger::Ledger;
-use note_bank::{NoteBank, Place};
+use note_bank::NoteBank;
 use protocol::LedgerFault;
 use std::alloc::{AllocError, Global};
 use std::process::Abort;
@@ -115,7 +115,7 @@ fn account_bank(heap: Global) -> Result<AccountBank, AllocError> {
 }
 
 fn note_bank(heap: Global) -> Result<NoteBank, AllocError> {
-    Ok(NoteBank::new(vec![in heap; Place::Free; 1024]?))
+    Ok(NoteBank::new(vec![in heap; None; 1024]?))
 }
 
 #[test]
@@ -134,7 +134,7 @@ fn every_ledger_gives_the_same_answers(rt: HostRuntime) -> Result<(), Fail> {
 #[test]
 fn too_little_memory_serves_no_chain(rt: HostRuntime) -> Result<(), Fail> {
     let amounts = AccountBank::new(vec![in rt.alloc(); 0; 767]?);
-    let notes = NoteBank::new(vec![in rt.alloc(); Place::Free; 1023]?);
+    let notes = NoteBank::new(vec![in rt.alloc(); None; 1023]?);
     assert_eq!(rt; amounts.chains(), 0);
     assert_eq!(rt; notes.chains(), 0);
     Ok(())

@@ -5,9 +5,7 @@ use Rattle.std.proofs.lemmas.List.{get_or_past, get_or-replicate}
 use Rattle.std.proofs.lemmas.Bool.{cases_Bool, cases_eq, cases_lt}
 use Rattle.sums.specs.Sums.{gate, count}
 use Rattle.sums.proofs.Counted.{total_set}
-use Rattle.note_bank.specs.Notes.{pair_of}
-use Rattle.note_bank.specs.declared.place.Place.{Place}
-use Rattle.note_bank.specs.declared.place.Place.TheVariants.{Free}
+use Rattle.note_bank.specs.Notes.{pair_of, Place}
 
 -- at most every row passes
 pub count_most : {X : Type 0} (p : X → Bool) (xs : List X) → count p xs ≤ length xs
@@ -32,7 +30,7 @@ none_seen n k q e =
 
 -- the place that is noted for a pair was passed, and holds a note of that pair
 abbrev pub Noted : List Place → List (Option ℕ) → ℕ → Type 0
-Noted xs seen i = (q k : ℕ) → get_or seen q None ≡ Some k → (k < i) × (pair_of (get_or xs k Free) ≡ Some q)
+Noted xs seen i = (q k : ℕ) → get_or seen q None ≡ Some k → (k < i) × (pair_of (get_or xs k None) ≡ Some q)
 
 module _ (xs : List Place) (seen : List (Option ℕ)) (i q : ℕ) (within : q < length seen) (new : get_or seen q None ≡ None) where
   -- a pair that is new makes one more
@@ -41,7 +39,7 @@ module _ (xs : List Place) (seen : List (Option ℕ)) (i q : ℕ) (within : q < 
       let on = total_set (λ (o : Option ℕ). gate (is_some o) 1) seen q (Some i) None within in
       omega (arith, rw new at on)
 
-  pub noted_more : Noted xs seen i → pair_of (get_or xs i Free) ≡ Some q → Noted xs (set seen q (Some i)) (i + 1)
+  pub noted_more : Noted xs seen i → pair_of (get_or xs i None) ≡ Some q → Noted xs (set seen q (Some i)) (i + 1)
   noted_more old here q' k e =
       ⊎_elim
       (λ (same : q' ≡ q).

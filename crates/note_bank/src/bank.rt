@@ -7,7 +7,6 @@ ghost use Rattle.protocol.specs.Refusals.{answer_unless, left_by};
 ghost use Rattle.ledger.specs.Empty.{empty};
 ghost use Rattle.ledger.specs.Taking.{take_refusals};
 ghost use Rattle.note_bank.specs.Notes.{Proper, FreeFrom, Full, note_chains, note_balances, notes_meaning, notes_lawful, notes_unserved};
-ghost use Rattle.note_bank.specs.declared.place.Place.TheVariants.{Free};
 
 use crate::pairs;
 use crate::place::{Note, Place};
@@ -99,7 +98,7 @@ impl NoteBank {
         ensures len { vec_len self.new.places ≡ vec_len self.old.places }
         ensures after { note_balances self.new.places.items ≡ note_balances self.old.places.items }
         ensures within { result < self.new.used }
-        ensures free { slice_index_or self.new.places.items result Free ≡ Free }
+        ensures free { slice_index_or self.new.places.items result None ≡ None }
     {
         let (first, second) = pairs::find_pair(self.front());
         pairs::join(&mut self.places, first, second);
@@ -113,7 +112,7 @@ impl NoteBank {
         ensures len { vec_len self.new.places ≡ vec_len self.old.places }
         ensures after { note_balances self.new.places.items ≡ note_balances self.old.places.items }
         ensures within { result < self.new.used }
-        ensures free { slice_index_or self.new.places.items result Free ≡ Free }
+        ensures free { slice_index_or self.new.places.items result None ≡ None }
     {
         let place = self.used;
         if place < PLACES {
@@ -130,7 +129,7 @@ impl NoteBank {
         ensures len { vec_len self.new.places ≡ vec_len self.old.places }
         ensures after { note_balances self.new.places.items ≡ note_balances self.old.places.items }
         ensures within { result < self.new.used }
-        ensures free { slice_index_or self.new.places.items result Free ≡ Free }
+        ensures free { slice_index_or self.new.places.items result None ≡ None }
     {
         match pairs::find_free(self.front()) {
             Some(place) => place,
@@ -150,7 +149,7 @@ impl NoteBank {
     {
         let place = self.free_place();
         let owner = account;
-        self.places[place] = Place::Held(Note {
+        self.places[place] = Some(Note {
             owner,
             denomination,
             amount,

@@ -2,8 +2,7 @@ use Rattle.std.proofs.Common.{◌≡◌, ℕ, ◌≤◌, List, length, sym, ap, 
 use Rattle.ledger.proofs.Lent.{lent_whole}
 use Rattle.protocol.specs.House.{most}
 use Rattle.protocol.specs.Ledger.{supply}
-use Rattle.note_bank.specs.Notes.{Proper, FreeFrom, note_balances, notes_meaning}
-use Rattle.note_bank.specs.declared.place.Place.{Place}
+use Rattle.note_bank.specs.Notes.{Proper, FreeFrom, note_balances, notes_meaning, Place}
 use Rattle.note_bank.proofs.Shares.{freed_meaning, freed_supplies, free_proper}
 use Rattle.note_bank.proofs.bank.wipe.Goals as goal
 

@@ -1,11 +1,10 @@
-use Rattle.std.proofs.Common.{ℕ, ◌+◌, ◌<◌, ◌≤◌, ◌≢◌, length, sym, ap, ◌∙◌, subst, arith, get_or-set_other}
+use Rattle.std.proofs.Common.{ℕ, ◌+◌, ◌<◌, ◌≤◌, ◌≢◌, length, sym, ap, ◌∙◌, subst, arith, get_or-set_other, Some, None}
 use Rattle.std.proofs.lemmas.Bool.Decides.{nat_tests}
 use Rattle.protocol.specs.House.{most}
 use Rattle.protocol.specs.Ledger.{Balances, supply, put}
 use Rattle.ledger.proofs.Supplies.{supplies_kept}
 use Rattle.note_bank.specs.Notes.{note_balances}
 use Rattle.note_bank.specs.declared.place.Note.{Note}
-use Rattle.note_bank.specs.declared.place.Place.TheVariants.{Free, Held}
 use Rattle.note_bank.proofs.Shares.{note_added, proper_set}
 use Rattle.note_bank.proofs.bank.NoteBank.add_note.Goals as goal
 
@@ -20,7 +19,7 @@ invariant_of-self c =
     let e = note_added ys i n long within c.free_place-place.ensures.free c.requires.account c.requires.denomination in
     let Law : Balances → Type 0 = λ b. (c' d : ℕ) → supply b c' d ≤ most in
     let fits = rw (sym c.free_place-place.ensures.after) at c.requires.fits in
-    let some = c.requires.some in record { supplies = subst Law (sym e) (supplies_kept (note_balances ys) 0 c.args.account c.args.denomination (note_balances ys 0 c.args.account c.args.denomination + c.args.amount) c.requires.account c.free_place-place.new.self.supplies (omega (arith, fits))); notes = proper_set ys i (Held n) within c.free_place-place.new.self.notes (grind (arith, nat_tests)); front = c.free_place-place.new.self.front; rest = (λ k h. let past : k ≢ i = omega (arith, c.free_place-place.ensures.within) in get_or-set_other ys i k (Held n) Free past ∙ c.free_place-place.new.self.rest k h) }
+    let some = c.requires.some in record { supplies = subst Law (sym e) (supplies_kept (note_balances ys) 0 c.args.account c.args.denomination (note_balances ys 0 c.args.account c.args.denomination + c.args.amount) c.requires.account c.free_place-place.new.self.supplies (omega (arith, fits))); notes = proper_set ys i (Some n) within c.free_place-place.new.self.notes (grind (arith, nat_tests)); front = c.free_place-place.new.self.front; rest = (λ k h. let past : k ≢ i = omega (arith, c.free_place-place.ensures.within) in get_or-set_other ys i k (Some n) None past ∙ c.free_place-place.new.self.rest k h) }
 
 pub returns : goal.returns
 returns c =

@@ -1,7 +1,5 @@
-use Rattle.std.proofs.Common.{◌≤◌, List, length, get_or, sym, refl, ap, ◌∙◌, subst, arith, get_or-take}
-use Rattle.note_bank.specs.Notes.{Full}
-use Rattle.note_bank.specs.declared.place.Place.{Place}
-use Rattle.note_bank.specs.declared.place.Place.TheVariants.{Free}
+use Rattle.std.proofs.Common.{◌≤◌, List, length, get_or, sym, refl, ap, ◌∙◌, subst, arith, get_or-take, None}
+use Rattle.note_bank.specs.Notes.{Full, Place}
 use Rattle.note_bank.proofs.Fronts.{in_front}
 use Rattle.note_bank.proofs.bank.NoteBank.free_place.Goals as goal
 
@@ -22,5 +20,5 @@ returns-in-Some c =
       len = refl;
       after = refl;
       within = within;
-      free = sym (ap (λ (ys : List Place). get_or ys i Free) c.front.ensures ∙ get_or-take bank.used xs i Free within) ∙ found.1;
+      free = sym (ap (λ (ys : List Place). get_or ys i None) c.front.ensures ∙ get_or-take bank.used xs i None within) ∙ found.1;
     }

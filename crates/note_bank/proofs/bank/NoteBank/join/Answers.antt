@@ -1,10 +1,8 @@
-use Rattle.std.proofs.Common.{◌≡◌, ℕ, ◌<◌, ◌≤◌, List, length, get_or, take, sym, refl, ap, ◌∙◌, subst, arith, length-take-le, get_or-take}
+use Rattle.std.proofs.Common.{◌≡◌, ℕ, ◌<◌, ◌≤◌, List, length, get_or, take, sym, refl, ap, ◌∙◌, subst, arith, length-take-le, get_or-take, None}
 use Rattle.ledger.proofs.Lent.{lent_whole}
 use Rattle.protocol.specs.House.{most}
 use Rattle.protocol.specs.Ledger.{Balances, supply}
-use Rattle.note_bank.specs.Notes.{Proper, FreeFrom, Full, Alike, held, note_balances}
-use Rattle.note_bank.specs.declared.place.Place.{Place}
-use Rattle.note_bank.specs.declared.place.Place.TheVariants.{Free}
+use Rattle.note_bank.specs.Notes.{Proper, FreeFrom, Full, Alike, held, note_balances, Place}
 use Rattle.note_bank.proofs.Fronts.{front_proper, in_front}
 use Rattle.note_bank.proofs.Joins.{joint_fits}
 use Rattle.note_bank.proofs.Shares.{balances_same}
@@ -39,14 +37,14 @@ join-requires c =
     let found : j < bank.used = in_front bank.used j xs c.front.result.now short c.front.ensures c.find_pair-first.ensures.within in
     let before : i < bank.used = omega arith in
     let within : j < length xs = omega arith in
-    let alike : Alike (get_or xs i Free) (get_or xs j Free) =
-    rw (get_or-take bank.used xs i Free before, get_or-take bank.used xs j Free found) at (subst (λ (ys : List Place). Alike (get_or ys i Free) (get_or ys j Free)) c.front.ensures c.find_pair-first.ensures.alike) in
+    let alike : Alike (get_or xs i None) (get_or xs j None) =
+    rw (get_or-take bank.used xs i None before, get_or-take bank.used xs j None found) at (subst (λ (ys : List Place). Alike (get_or ys i None) (get_or ys j None)) c.front.ensures c.find_pair-first.ensures.alike) in
     let fits = joint_fits xs i j order within (omega (arith, c.requires.served)) bank.notes alike bank.supplies in
     record {
       order = order;
       within = rw lent at within;
       notes = subst Proper lent bank.notes;
-      alike = subst (λ (ys : List Place). Alike (get_or ys i Free) (get_or ys j Free)) lent alike;
+      alike = subst (λ (ys : List Place). Alike (get_or ys i None) (get_or ys j None)) lent alike;
       fits = rw lent at fits;
     }
 
@@ -62,7 +60,7 @@ invariant_of-self c =
     let whole = lent_whole bank.places.len ys xs (omega arith) same in
     let balances = balances_same xs ys same (λ a d. c.join.ensures.same a d ∙ ap (λ (zs : List Place). held zs a d) c.deref_mut.ensures.value) in
     let rest : FreeFrom bank.used ys =
-    λ k h. c.join.ensures.behind k (omega arith) ∙ ap (λ (zs : List Place). get_or zs k Free) c.deref_mut.ensures.value ∙ bank.rest k h in
+    λ k h. c.join.ensures.behind k (omega arith) ∙ ap (λ (zs : List Place). get_or zs k None) c.deref_mut.ensures.value ∙ bank.rest k h in
     let Law : Balances → Type 0 = λ b. (c' d : ℕ) → supply b c' d ≤ most in record { supplies = subst Law (sym (ap note_balances whole ∙ balances)) bank.supplies; notes = subst Proper (sym whole) c.join.ensures.notes; front = bank.front; rest = subst (FreeFrom bank.used) (sym whole) rest }
 
 pub returns : goal.returns
@@ -79,5 +77,5 @@ returns c =
       len = refl;
       after = ap note_balances whole ∙ balances_same xs ys same (λ a d. c.join.ensures.same a d ∙ ap (λ (zs : List Place). held zs a d) c.deref_mut.ensures.value);
       within = in_front bank.used j xs c.front.result.now short c.front.ensures c.find_pair-first.ensures.within;
-      free = ap (λ (zs : List Place). get_or zs j Free) whole ∙ c.join.ensures.free;
+      free = ap (λ (zs : List Place). get_or zs j None) whole ∙ c.join.ensures.free;
     }

@@ -6,8 +6,7 @@ use Rattle.ledger.proofs.Lent.{lent_whole}
 use Rattle.protocol.specs.House.{most}
 use Rattle.protocol.specs.Ledger.{Balances, supply, put}
 use Rattle.ledger.proofs.Supplies.{supplies_kept}
-use Rattle.note_bank.specs.Notes.{Proper, FreeFrom, released, held, note_balances}
-use Rattle.note_bank.specs.declared.place.Place.{Place}
+use Rattle.note_bank.specs.Notes.{Proper, FreeFrom, released, held, note_balances, Place}
 use Rattle.note_bank.proofs.Shares.{balances_put, held_released, proper_released, rest_released, front_released}
 use Rattle.note_bank.proofs.bank.NoteBank.release.Goals as goal
 
