@@ -1,5 +1,5 @@
 -- What one place more, one place replaced and places freed do to the sums of notes, and what the adding-up routine gives.
-use Rattle.std.proofs.Common.{◌≡◌, ℕ, zero, suc, ◌+◌, ◌<◌, ◌≤◌, true, false, cond, ◌&&◌, eqb, ltb, List, [], ◌∷◌, ◌++◌, map, length, get_or, take, drop, set, sym, refl, ap, ◌∙◌, ⊎_elim, arith, length-set, get_or-set_other, get_or-set_same, Bool, None, Some}
+use Rattle.std.proofs.Common.{◌≡◌, ℕ, zero, suc, ◌+◌, ◌<◌, ◌≤◌, true, false, cond, ◌&&◌, eqb, List, [], ◌∷◌, ◌++◌, map, length, get_or, take, drop, set, sym, refl, ap, ◌∙◌, ⊎_elim, arith, length-set, get_or-set_other, get_or-set_same, Bool, None, Some}
 use mathlib.Core.Path.{fun_ext}
 use Rattle.std.proofs.lemmas.List.{get_or_past, get_or-map, length-map}
 use Rattle.std.proofs.lemmas.Bool.{cases_eq, cases_lt, cases_Bool}
@@ -10,9 +10,12 @@ use Rattle.sums.proofs.Below.{sum_same, sum_zero, sum_only, sum_add}
 use Rattle.sums.proofs.Counted.{counted_total, total_same, total_set}
 use Rattle.protocol.specs.House.{most}
 use Rattle.protocol.specs.Ledger.{Balances, supply, put}
-use Rattle.ledger.specs.Empty.{without_bars, empty}
-use Rattle.note_bank.specs.Notes.{amount_of, belongs, share, note_in, proper, Proper, FreeFrom, released, note_chains, held, note_balances, notes_meaning, Place}
+use Rattle.note_bank.specs.Notes.{amount_of, belongs, share, note_in, proper, Proper, FreeFrom, released, note_chains, held, note_balances, Place}
 use Rattle.note_bank.specs.declared.place.Note.{Note}
+
+-- the one chain is kept on 1,024 places or more
+pub kept_on : (xs : List Place) → note_chains xs ≡ 1 → 1024 ≤ length xs
+kept_on xs e = grind (arith, nat_tests)
 
 -- one place replaced
 pub held_set : (xs : List Place) (i : ℕ) (p : Place) → i < length xs → (a d : ℕ) → held (set xs i p) a d + share a d (get_or xs i None) ≡ held xs a d + share a d p
@@ -205,13 +208,9 @@ module _ (xs : List Place) (free : (k : ℕ) → get_or xs k None ≡ None) wher
   pub free_proper : Proper xs
   free_proper k = rw (free k) refl
 
-free_balances : (xs : List Place) → ((k : ℕ) → get_or xs k None ≡ None) → note_balances xs ≡ (λ _ _ _. 0)
+pub free_balances : (xs : List Place) → ((k : ℕ) → get_or xs k None ≡ None) → note_balances xs ≡ (λ _ _ _. 0)
 unfolding note_balances
 free_balances xs free = fun_ext λ c. fun_ext λ a. fun_ext λ d. let h = free_held xs free a d in grind (arith, nat_tests)
-
-pub freed_meaning : (xs ys : List Place) → ((k : ℕ) → get_or xs k None ≡ None) → length xs ≡ length ys → notes_meaning xs ≡ empty (note_chains ys)
-freed_meaning xs ys free e =
-    ap (without_bars (note_chains xs)) (free_balances xs free) ∙ ap (λ (n : ℕ). empty (cond (ltb n 1024) 0 1)) e
 
 pub freed_supplies : (xs : List Place) → ((k : ℕ) → get_or xs k None ≡ None) → (c d : ℕ) → supply (note_balances xs) c d ≤ most
 freed_supplies xs free c d = omega (arith, ap (λ (b : Balances). supply b c d) (free_balances xs free), sum_zero 24)

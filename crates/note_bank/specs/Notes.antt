@@ -5,8 +5,8 @@ use Rattle.std.proofs.lemmas.Bool.{le-ltb}
 use Rattle.sums.specs.Sums.{total, gate}
 use Rattle.sums.specs.declared.Column.{Column}
 use Rattle.protocol.specs.House.{most, accounts, denoms_most}
-use Rattle.protocol.specs.Ledger.{Balances, Ledger, Lawful, supply}
-use Rattle.ledger.specs.Empty.{without_bars}
+use Rattle.protocol.specs.Ledger.{Balances, supply}
+use Rattle.bank.specs.OneChain.{Kept}
 use Rattle.note_bank.specs.declared.place.Note.{Note}
 
 -- a place holds a note, or is free
@@ -76,15 +76,7 @@ held xs a d = total (share a d) xs
 unfoldable pub note_balances : List Place → Balances
 note_balances xs c a d = cond (nat_lt c (note_chains xs) && nat_lt a accounts && nat_lt d denoms_most) (held xs a d) 0
 
--- the ledger that places with notes mean
-abbrev pub notes_meaning : List Place → Ledger
-notes_meaning xs = without_bars (note_chains xs) (note_balances xs)
-
--- where supplies are in bounds, both laws hold
-pub notes_lawful : (xs : List Place) → ((c d : ℕ) → supply (note_balances xs) c d ≤ most) → Lawful (notes_meaning xs)
-notes_lawful xs h = record { supplies = h; bars = λ c u e. refl }
-
--- a chain that is not served has no balance
-pub notes_unserved : (xs : List Place) (c a d : ℕ) → note_chains xs ≤ c → note_balances xs c a d ≡ 0
+-- where supplies are in bounds, that is all that a bank asks of its store: a chain that is not served has no balance
+pub notes_kept : (xs : List Place) → ((c d : ℕ) → supply (note_balances xs) c d ≤ most) → Kept (note_chains xs) (note_balances xs)
 unfolding note_balances
-notes_unserved xs c a d h = rw (le-ltb c (note_chains xs) h) refl
+notes_kept xs h = record { supplies = h; unserved = λ c a d out. rw (le-ltb c (note_chains xs) out) refl }

@@ -85,10 +85,3 @@ pub(crate) fn release(places: &mut [Place], owner: usize, denomination: usize)
         }
     }
 }
-
-// Frees every place.
-pub(crate) fn free_all(places: &mut [Place])
-    ensures { (k : ℕ) → slice_index_or places.new k None ≡ None }
-{
-    places.fill(None);
-}
