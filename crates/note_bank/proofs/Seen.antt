@@ -1,8 +1,7 @@
 -- The table of pairs seen: each place that is passed adds one pair, and there are no more pairs than the table has places.
 use Rattle.std.proofs.Common.{◌≡◌, ℕ, ◌+◌, ◌<◌, ◌≤◌, Bool, true, false, List, [], ◌∷◌, length, get_or, set, replicate, is_some, Some, None, Option, sym, refl, ◌∙◌, ⊎_elim, arith, get_or-set_other, get_or-set_same}
-use lib.ListN.{length-replicate}
-use Rattle.std.proofs.lemmas.List.{get_or_past, get_or-replicate}
-use Rattle.std.proofs.lemmas.Bool.{cases_Bool, cases_eq, cases_lt}
+use Rattle.std.proofs.lemmas.Bool.{cases_Bool, cases_eq}
+use Rattle.ledger.proofs.Filled.{filled}
 use Rattle.sums.specs.Sums.{gate, count}
 use Rattle.sums.proofs.Counted.{total_set}
 use Rattle.note_bank.specs.Notes.{pair_of, Place}
@@ -20,11 +19,7 @@ count_most p (x ∷ xs) =
 -- at first none is seen
 pub none_seen : (n k q : ℕ) → get_or (replicate n None) q None ≡ Some k → ⊥
 none_seen n k q e =
-    let none : get_or {A = Option ℕ} (replicate n None) q None ≡ None =
-    ⊎_elim
-    (λ (h : q < n). get_or-replicate n q None None h)
-    (λ (h : n ≤ q). get_or_past (replicate n None) q None (rw length-replicate h))
-    (cases_lt q n) in
+    let none : get_or {A = Option ℕ} (replicate n None) q None ≡ None = filled None n q in
     let z : ◌≡◌ {A = ℕ} 0 1 = cc in
     omega arith
 
