@@ -1,5 +1,5 @@
 -- A write to one amount of a table, its columns, and an empty table, as the ledger sees them.
-use Rattle.std.proofs.Common.{◌≡◌, ℕ, ◌+◌, ◌*◌, ◌<◌, ◌≤◌, cond, ltb, List, length, get_or, set, refl, ap, ◌∙◌, ⊎_elim, arith, length-set, get_or-set_other, get_or-set_same}
+use Rattle.std.proofs.Common.{◌≡◌, ℕ, ◌+◌, ◌*◌, ◌<◌, ◌≤◌, List, length, get_or, set, refl, ◌∙◌, ⊎_elim, arith, length-set, get_or-set_other, get_or-set_same}
 use mathlib.Core.Path.{fun_ext}
 use Rattle.std.proofs.lemmas.Bool.{cases_eq}
 use Rattle.std.proofs.lemmas.Bool.Decides.{nat_tests}
@@ -10,8 +10,7 @@ use Rattle.sums.proofs.Below.{sum_same, sum_zero}
 use Rattle.sums.proofs.Columns.{column_counted}
 use Rattle.protocol.specs.House.{most}
 use Rattle.protocol.specs.Ledger.{supply, put}
-use Rattle.ledger.specs.Empty.{without_bars, empty}
-use Rattle.account_bank.specs.Table.{table_chains, table_balances, table_meaning}
+use Rattle.account_bank.specs.Table.{table_chains, table_balances}
 
 -- a write keeps the length
 pub chains_set : (xs : List ℕ) (i v : ℕ) → table_chains (set xs i v) ≡ table_chains xs
@@ -53,8 +52,3 @@ module _ (xs : List ℕ) (none : (k : ℕ) → get_or xs k 0 ≡ 0) where
 
   pub zero_supplies : (c d : ℕ) → supply (table_balances xs) c d ≤ most
   zero_supplies c d = omega (arith, sum_same 24 _ (λ _. 0) (λ a h. zero_each c a d), sum_zero 24)
-
-  -- a table wiped means the empty ledger of as many chains
-  pub wiped_meaning : (ys : List ℕ) → length xs ≡ length ys → table_meaning xs ≡ empty (table_chains ys)
-  wiped_meaning ys e =
-      ap (without_bars (table_chains xs)) zero_balances ∙ ap (λ (n : ℕ). empty (cond (ltb n 768) 0 1)) e

@@ -1,6 +1,6 @@
-// The account bank: one chain's amounts in a table, an account's 32 denominations after another's.
+// The account bank: one chain's balances as a table of amounts, 32 denominations to an account.
 #![tactic(auto)]
 
-mod bank;
+mod amounts;
 
-pub use bank::AccountBank;
+pub use amounts::{AccountBank, Amounts};

@@ -1,6 +1,6 @@
 ghost use Rattle.std.specs.Prelude.{◌≡◌};
 ghost use Rattle.std.specs.Option.{option_map};
-ghost use Rattle.protocol.specs.Book.{Book as Meaning, mark_number, taken, wiped, take_refusals};
+ghost use Rattle.protocol.specs.Book.{Book as Meaning, mark_number, lower_marked, taken, wiped, take_refusals};
 ghost use Rattle.protocol.specs.Faults.{told_by, book_number};
 ghost use Rattle.protocol.specs.Refusals.{answer_unless, left_by};
 ghost use Rattle.books.specs.Bounds.{Bounded};
@@ -21,6 +21,13 @@ pub trait Book {
     /// The mark of a sequence of a lane, if there is one.
     fn look(&self, lane: usize, sequence: usize) -> Option<Mark>
         ensures { option_map mark_number result ≡ (meaning self.now).mark lane sequence };
+
+    /// Whether each lower sequence of the lane has a mark.
+    fn lower_marked(&self, lane: usize, sequence: usize) -> bool
+        ensures { result ≡ lower_marked (meaning self.now) lane sequence }
+    {
+        (1..sequence).all(|lower| self.look(lane, lower).is_some())
+    }
 
     /// Writes a mark, if the book admits the sequence.
     fn take(&mut self, lane: usize, sequence: usize, mark: Mark) -> Result<(), BookFault>

@@ -2,10 +2,7 @@
 #![tactic(auto)]
 
 mod book;
-mod free;
-mod marks;
-mod strict;
+mod receipts;
 
 pub use book::Book;
-pub use free::FreeBook;
-pub use strict::StrictBook;
+pub use receipts::{FreeBook, ReceiptBook, StrictBook};

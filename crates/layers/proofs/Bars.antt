@@ -1,8 +1,6 @@
 -- A call to a ledger under bars, seen through the bars.
-use Rattle.std.proofs.Common.{◌≡◌, ℕ, ◌+◌, ◌*◌, ◌<◌, ◌≤◌, Bool, true, false, ◌||◌, List, length, get_or, set, replicate, None, Ok, Err, Result, sym, refl, ap, ⊎_elim, arith, get_or-set_other, get_or-set_same}
+use Rattle.std.proofs.Common.{◌≡◌, ℕ, ◌+◌, ◌*◌, ◌<◌, ◌≤◌, Bool, true, false, ◌||◌, List, length, get_or, set, None, Ok, Err, Result, sym, refl, ap, ⊎_elim, arith, get_or-set_other, get_or-set_same}
 use mathlib.Core.Path.{fun_ext}
-use lib.ListN.{length-replicate}
-use Rattle.std.proofs.lemmas.List.{get_or_past, get_or-replicate}
 use Rattle.std.proofs.lemmas.Bool.{cases_eq, cases_lt, cases_Bool}
 use Rattle.std.proofs.lemmas.Bool.Decides.{nat_tests}
 use Rattle.protocol.specs.Faults.{told_by, ledger_number}
@@ -57,13 +55,6 @@ module _ (m : Ledger) (law : Lawful m) (c u : ℕ) (served : c < m.chains) (user
       (cases_Bool (m.serves_bars c))
 
 -- no flag, and a ledger below that was cleared
-pub none_flagged : (n k : ℕ) → get_or (replicate n false) k false ≡ false
-none_flagged n k =
-    ⊎_elim
-    (λ (h : k < n). get_or-replicate n k false false h)
-    (λ (h : n ≤ k). get_or_past (replicate n false) k false (rw length-replicate h))
-    (cases_lt k n)
-
 pub barring_cleared : (fs gs : List Bool) (m : Ledger) → ((k : ℕ) → get_or gs k false ≡ false) → barring gs (cleared m) ≡ cleared (barring fs m)
 barring_cleared fs gs m none =
     ap (with_barred (cleared (barring fs m))) (fun_ext λ c. fun_ext λ u. let h = none (c * 16 + u) in grind (arith, nat_tests))

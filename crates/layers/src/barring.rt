@@ -4,17 +4,17 @@ ghost use Rattle.protocol.specs.Ledger.{bar_set, cleared};
 ghost use Rattle.layers.specs.Layers.{barring as with-bars, barring_chains};
 ghost use Rattle.layers.specs.Laws.{barring_lawful, barring_unserved};
 
-use ledger::{Confined, Ledger, move_within, within};
-use protocol::{LedgerFault, USERS};
+use ledger::{Confined, Ledger, chain_within, move_within, within};
+use protocol::{CHAINS, LedgerFault, USERS};
 
-// At most so many chains are served.
-const MOST: usize = 8;
+// A flag for each user of each chain that may be served.
+const FLAGS: usize = CHAINS * USERS;
 
 /// Bars over any ledger, on its first eight chains; a user is barred if this layer or the ledger below says so.
 #[derive(Drop)]
 pub struct Barring<L: Ledger> {
     ledger: L,
-    flags: [bool; 128],
+    flags: [bool; FLAGS],
 }
 
 impl<L: Ledger> Barring<L> {
@@ -24,7 +24,7 @@ impl<L: Ledger> Barring<L> {
     {
         Barring {
             ledger,
-            flags: [false; 128],
+            flags: [false; FLAGS],
         }
     }
 
@@ -62,7 +62,7 @@ impl<L: Ledger> Barring<L> {
         ensures below { self.new.ledger ≡ self.old.ledger }
         ensures after { with-bars self.new.flags (cleared (L.Ledger.meaning self.old.ledger)) ≡ cleared (with-bars self.old.flags (L.Ledger.meaning self.old.ledger)) }
     {
-        self.flags = [false; 128];
+        self.flags = [false; FLAGS];
     }
 }
 
@@ -72,8 +72,7 @@ impl<L: Ledger> Ledger for Barring<L> {
     ghost lawful = { λ b. barring_lawful b.flags (L.Ledger.meaning b.ledger) (L.Ledger.lawful b.ledger) };
 
     fn chains(&self) -> usize {
-        let below = self.ledger.chains();
-        if below < MOST { below } else { MOST }
+        CHAINS.min(self.ledger.chains())
     }
 
     fn balance(
@@ -82,40 +81,29 @@ impl<L: Ledger> Ledger for Barring<L> {
         account: usize,
         denomination: usize,
     ) -> Result<u64, LedgerFault> {
-        if chain >= MOST {
-            return Err(LedgerFault::ChainNotServed);
-        }
+        chain_within(CHAINS, chain)?;
         self.ledger.balance(chain, account, denomination)
     }
 
     fn supply(&self, chain: usize, denomination: usize) -> Result<u64, LedgerFault> {
-        if chain >= MOST {
-            return Err(LedgerFault::ChainNotServed);
-        }
+        chain_within(CHAINS, chain)?;
         self.ledger.supply(chain, denomination)
     }
 
     fn users_hold(&self, chain: usize, denomination: usize) -> Result<u64, LedgerFault> {
-        if chain >= MOST {
-            return Err(LedgerFault::ChainNotServed);
-        }
+        chain_within(CHAINS, chain)?;
         self.ledger.users_hold(chain, denomination)
     }
 
     fn is_barred(&self, chain: usize, user: usize) -> Result<bool, LedgerFault> {
-        if chain >= MOST {
-            return Err(LedgerFault::ChainNotServed);
-        }
+        chain_within(CHAINS, chain)?;
         let below = self.ledger.is_barred(chain, user)?;
-        Ok(below || self.flags[chain * USERS + user])
+        Ok(below || self.is_flagged(chain, user))
     }
 
     fn serves_bars(&self, chain: usize) -> Result<bool, LedgerFault> {
-        if chain < self.chains() {
-            Ok(true)
-        } else {
-            Err(LedgerFault::ChainNotServed)
-        }
+        chain_within(self.chains(), chain)?;
+        Ok(true)
     }
 
     fn credit(
@@ -125,9 +113,7 @@ impl<L: Ledger> Ledger for Barring<L> {
         denomination: usize,
         amount: u64,
     ) -> Result<(), LedgerFault> {
-        if chain >= MOST {
-            return Err(LedgerFault::ChainNotServed);
-        }
+        chain_within(CHAINS, chain)?;
         self.ledger.credit(chain, account, denomination, amount)
     }
 

@@ -3,7 +3,7 @@ ghost use Rattle.layers.specs.Layers.{beside as side_by_side};
 ghost use Rattle.layers.specs.Laws.{beside_lawful, beside_unserved};
 ghost use Rattle.layers.specs.Sides.{OnSide};
 
-use ledger::{Confined, Ledger};
+use ledger::{Confined, Ledger, chain_within};
 use protocol::LedgerFault;
 
 // At most so many chains are served.
@@ -16,7 +16,8 @@ pub struct Beside<L: Ledger, R: Ledger> {
     second: R,
 }
 
-// One of the two, and its own number of a chain.
+// One of the two, and its own number of a chain. Each call matches on it: the ledgers are of two types, so that one closure
+// cannot call either, and a `dyn` of one may not be handed out.
 #[derive(Clone, Copy)]
 pub(crate) enum Side {
     First(usize),
@@ -35,9 +36,7 @@ impl<L: Ledger, R: Ledger> Beside<L, R> {
     fn side(&self, chain: usize) -> Result<Side, LedgerFault>
         ensures { OnSide (L.Ledger.meaning self.now.first).chains chain result }
     {
-        if chain >= MOST {
-            return Err(LedgerFault::ChainNotServed);
-        }
+        chain_within(MOST, chain)?;
         let first = self.first.chains();
         if chain < first {
             Ok(Side::First(chain))
@@ -53,13 +52,7 @@ impl<L: Ledger, R: Ledger> Ledger for Beside<L, R> {
     ghost lawful = { λ b. beside_lawful (L.Ledger.meaning b.first) (R.Ledger.meaning b.second) (L.Ledger.lawful b.first) (R.Ledger.lawful b.second) };
 
     fn chains(&self) -> usize {
-        let first = self.first.chains();
-        let second = self.second.chains();
-        if first >= MOST || second > MOST - first {
-            MOST
-        } else {
-            first + second
-        }
+        MOST.min(self.first.chains().saturating_add(self.second.chains()))
     }
 
     fn balance(

@@ -1,11 +1,22 @@
 ghost use Rattle.std.specs.Prelude.{◌≡◌, ◌||◌, nat_le};
 ghost use Rattle.protocol.specs.Faults.{told_by, ledger_number};
 ghost use Rattle.protocol.specs.House.{accounts};
-ghost use Rattle.protocol.specs.Ledger.{outside, balance_refusals, supply_refusals, user_refusals};
+ghost use Rattle.protocol.specs.Ledger.{outside, chain_refusals, balance_refusals, supply_refusals, user_refusals};
 ghost use Rattle.protocol.specs.Refusals.{answer_unless};
 ghost use Rattle.ledger.specs.Empty.{empty};
 
 use protocol::{ACCOUNTS, DENOMINATIONS, LedgerFault, USERS};
+
+/// Refuses a chain that is not served, where `chains` chains are.
+pub fn chain_within(chains: usize, chain: usize) -> Result<(), LedgerFault>
+    ensures { told_by ledger_number result ≡ answer_unless (chain_refusals (empty chains) chain) tt }
+{
+    if chain < chains {
+        Ok(())
+    } else {
+        Err(LedgerFault::ChainNotServed)
+    }
+}
 
 /// Refuses a chain, an account, an amount or a denomination outside the meaning of a ledger that serves `chains` chains.
 pub fn within(
@@ -48,9 +59,7 @@ pub fn balance_within(
 ) -> Result<(), LedgerFault>
     ensures { told_by ledger_number result ≡ answer_unless (balance_refusals (empty chains) chain account denomination) tt }
 {
-    if chain >= chains {
-        return Err(LedgerFault::ChainNotServed);
-    }
+    chain_within(chains, chain)?;
     if account >= ACCOUNTS {
         return Err(LedgerFault::NoSuchAccount);
     }
@@ -71,9 +80,7 @@ pub fn total_within(chains: usize, chain: usize, denomination: usize) -> Result<
 pub fn user_within(chains: usize, chain: usize, user: usize) -> Result<(), LedgerFault>
     ensures { told_by ledger_number result ≡ answer_unless (user_refusals (empty chains) chain user) tt }
 {
-    if chain >= chains {
-        return Err(LedgerFault::ChainNotServed);
-    }
+    chain_within(chains, chain)?;
     if user >= USERS {
         return Err(LedgerFault::NoSuchAccount);
     }

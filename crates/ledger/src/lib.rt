@@ -9,7 +9,7 @@ ghost use Rattle.protocol.specs.House.{chains_most};
 ghost use Rattle.protocol.specs.Ledger.{Ledger as Meaning, Lawful, supply as supply_of, users_hold, with_balances, credited, debited, moved, bar_set, cleared, credit_refusals, debit_refusals, move_refusals, bar_refusals, chain_refusals, supply_refusals, balance_refusals, user_refusals};
 ghost use Rattle.protocol.specs.Refusals.{answer_unless, left_by};
 
-pub use checks::{balance_within, move_within, total_within, user_within, within};
+pub use checks::{balance_within, chain_within, move_within, total_within, user_within, within};
 use protocol::LedgerFault;
 pub use protocol::{ACCOUNTS, DENOMINATIONS, USERS};
 
@@ -78,15 +78,11 @@ pub trait Ledger {
         ensures answer { told_by ledger_number result ≡ answer_unless (move_refusals (meaning self.old) chain from to denomination amount) tt }
         ensures after { meaning self.new ≡ left_by result (meaning self.old) (with_balances (meaning self.old) (moved (meaning self.old).balance chain from to denomination amount)) }
     {
-        if chain >= self.chains() {
-            return Err(LedgerFault::ChainNotServed);
-        }
+        chain_within(self.chains(), chain)?;
         if from >= ACCOUNTS || to >= ACCOUNTS {
             return Err(LedgerFault::NoSuchAccount);
         }
-        if let Err(fault) = self.debit(chain, from, denomination, amount) {
-            return Err(fault);
-        }
+        self.debit(chain, from, denomination, amount)?;
         self.credit(chain, to, denomination, amount)
     }
 

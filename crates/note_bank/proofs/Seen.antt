@@ -1,13 +1,10 @@
 -- The table of pairs seen: each place that is passed adds one pair, and there are no more pairs than the table has places.
 use Rattle.std.proofs.Common.{◌≡◌, ℕ, ◌+◌, ◌<◌, ◌≤◌, Bool, true, false, List, [], ◌∷◌, length, get_or, set, replicate, is_some, Some, None, Option, sym, refl, ◌∙◌, ⊎_elim, arith, get_or-set_other, get_or-set_same}
-use lib.ListN.{length-replicate}
-use Rattle.std.proofs.lemmas.List.{get_or_past, get_or-replicate}
-use Rattle.std.proofs.lemmas.Bool.{cases_Bool, cases_eq, cases_lt}
+use Rattle.std.proofs.lemmas.Bool.{cases_Bool, cases_eq}
+use Rattle.ledger.proofs.Filled.{filled}
 use Rattle.sums.specs.Sums.{gate, count}
 use Rattle.sums.proofs.Counted.{total_set}
-use Rattle.note_bank.specs.Notes.{pair_of}
-use Rattle.note_bank.specs.declared.place.Place.{Place}
-use Rattle.note_bank.specs.declared.place.Place.TheVariants.{Free}
+use Rattle.note_bank.specs.Notes.{pair_of, Place}
 
 -- at most every row passes
 pub count_most : {X : Type 0} (p : X → Bool) (xs : List X) → count p xs ≤ length xs
@@ -22,17 +19,13 @@ count_most p (x ∷ xs) =
 -- at first none is seen
 pub none_seen : (n k q : ℕ) → get_or (replicate n None) q None ≡ Some k → ⊥
 none_seen n k q e =
-    let none : get_or {A = Option ℕ} (replicate n None) q None ≡ None =
-    ⊎_elim
-    (λ (h : q < n). get_or-replicate n q None None h)
-    (λ (h : n ≤ q). get_or_past (replicate n None) q None (rw length-replicate h))
-    (cases_lt q n) in
+    let none : get_or {A = Option ℕ} (replicate n None) q None ≡ None = filled None n q in
     let z : ◌≡◌ {A = ℕ} 0 1 = cc in
     omega arith
 
 -- the place that is noted for a pair was passed, and holds a note of that pair
 abbrev pub Noted : List Place → List (Option ℕ) → ℕ → Type 0
-Noted xs seen i = (q k : ℕ) → get_or seen q None ≡ Some k → (k < i) × (pair_of (get_or xs k Free) ≡ Some q)
+Noted xs seen i = (q k : ℕ) → get_or seen q None ≡ Some k → (k < i) × (pair_of (get_or xs k None) ≡ Some q)
 
 module _ (xs : List Place) (seen : List (Option ℕ)) (i q : ℕ) (within : q < length seen) (new : get_or seen q None ≡ None) where
   -- a pair that is new makes one more
@@ -41,7 +34,7 @@ module _ (xs : List Place) (seen : List (Option ℕ)) (i q : ℕ) (within : q < 
       let on = total_set (λ (o : Option ℕ). gate (is_some o) 1) seen q (Some i) None within in
       omega (arith, rw new at on)
 
-  pub noted_more : Noted xs seen i → pair_of (get_or xs i Free) ≡ Some q → Noted xs (set seen q (Some i)) (i + 1)
+  pub noted_more : Noted xs seen i → pair_of (get_or xs i None) ≡ Some q → Noted xs (set seen q (Some i)) (i + 1)
   noted_more old here q' k e =
       ⊎_elim
       (λ (same : q' ≡ q).

@@ -1,41 +1,42 @@
 -- What one place more, one place replaced and places freed do to the sums of notes, and what the adding-up routine gives.
-use Rattle.std.proofs.Common.{◌≡◌, ℕ, zero, suc, ◌+◌, ◌<◌, ◌≤◌, true, false, cond, ◌&&◌, eqb, ltb, List, [], ◌∷◌, ◌++◌, map, length, get_or, take, drop, set, sym, refl, ap, ◌∙◌, ⊎_elim, arith, length-set, get_or-set_other, get_or-set_same}
+use Rattle.std.proofs.Common.{◌≡◌, ℕ, zero, suc, ◌+◌, ◌<◌, ◌≤◌, true, false, cond, ◌&&◌, eqb, List, [], ◌∷◌, ◌++◌, map, length, get_or, take, drop, set, sym, refl, ap, ◌∙◌, ⊎_elim, arith, length-set, get_or-set_other, get_or-set_same, Bool, None, Some}
 use mathlib.Core.Path.{fun_ext}
 use Rattle.std.proofs.lemmas.List.{get_or_past, get_or-map, length-map}
 use Rattle.std.proofs.lemmas.Bool.{cases_eq, cases_lt, cases_Bool}
 use Rattle.std.proofs.lemmas.Bool.Decides.{nat_tests}
-use Rattle.sums.specs.Sums.{sum_below, total, gate, counted}
+use Rattle.sums.specs.Sums.{sum_below, total, gate, counted, amount_held, held_counts}
 use Rattle.sums.specs.declared.Column.{Column}
 use Rattle.sums.proofs.Below.{sum_same, sum_zero, sum_only, sum_add}
 use Rattle.sums.proofs.Counted.{counted_total, total_same, total_set}
 use Rattle.protocol.specs.House.{most}
 use Rattle.protocol.specs.Ledger.{Balances, supply, put}
-use Rattle.ledger.specs.Empty.{without_bars, empty}
-use Rattle.note_bank.specs.Notes.{amount_of, belongs, share, note_in, proper, Proper, FreeFrom, released, note_chains, held, note_balances, notes_meaning}
+use Rattle.note_bank.specs.Notes.{amount_of, belongs, share, note_in, proper, Proper, FreeFrom, released, note_chains, held, note_balances, Place}
 use Rattle.note_bank.specs.declared.place.Note.{Note}
-use Rattle.note_bank.specs.declared.place.Place.{Place}
-use Rattle.note_bank.specs.declared.place.Place.TheVariants.{Free, Held}
+
+-- the one chain is kept on 1,024 places or more
+pub kept_on : (xs : List Place) → note_chains xs ≡ 1 → 1024 ≤ length xs
+kept_on xs e = grind (arith, nat_tests)
 
 -- one place replaced
-pub held_set : (xs : List Place) (i : ℕ) (p : Place) → i < length xs → (a d : ℕ) → held (set xs i p) a d + share a d (get_or xs i Free) ≡ held xs a d + share a d p
+pub held_set : (xs : List Place) (i : ℕ) (p : Place) → i < length xs → (a d : ℕ) → held (set xs i p) a d + share a d (get_or xs i None) ≡ held xs a d + share a d p
 unfolding held
-held_set xs i p h a d = total_set (share a d) xs i p Free h
+held_set xs i p h a d = total_set (share a d) xs i p None h
 
 pub proper_set : (xs : List Place) (i : ℕ) (p : Place) → i < length xs → Proper xs → proper p ≡ true → Proper (set xs i p)
 proper_set xs i p h all e k =
     ⊎_elim
-    (λ (same : k ≡ i). rw (same, get_or-set_same xs i p Free h) e)
-    (λ (other : k ≡ i → ⊥). rw (get_or-set_other xs i k p Free other) (all k))
+    (λ (same : k ≡ i). rw (same, get_or-set_same xs i p None h) e)
+    (λ (other : k ≡ i → ⊥). rw (get_or-set_other xs i k p None other) (all k))
     (cases_eq k i)
 
 -- the places of an account's notes freed
 share_released : (a d a' d' : ℕ) (p : Place) → share a' d' (released a d p) ≡ cond (eqb a' a && eqb d' d) 0 (share a' d' p)
-share_released a d a' d' Free = grind (arith, nat_tests)
-share_released a d a' d' (Held n) =
+share_released a d a' d' None = grind (arith, nat_tests)
+share_released a d a' d' (Some n) =
     ⊎_elim
-    (λ (e : belongs a d (Held n) ≡ true). rw e (grind (arith, nat_tests)))
-    (λ (e : belongs a d (Held n) ≡ false). rw e (grind (arith, nat_tests)))
-    (cases_Bool (belongs a d (Held n)))
+    (λ (e : belongs a d (Some n) ≡ true). rw e (grind (arith, nat_tests)))
+    (λ (e : belongs a d (Some n) ≡ false). rw e (grind (arith, nat_tests)))
+    (cases_Bool (belongs a d (Some n)))
 
 pub held_released : (xs : List Place) (a d a' d' : ℕ) → held (map (released a d) xs) a' d' ≡ cond (eqb a' a && eqb d' d) 0 (held xs a' d')
 unfolding held
@@ -58,12 +59,12 @@ proper_free a d p e =
 pub proper_released : (xs : List Place) (a d : ℕ) → Proper xs → Proper (map (released a d) xs)
 proper_released xs a d all k =
     ⊎_elim
-    (λ (h : k < length xs). rw (get_or-map (released a d) xs k Free Free h) (proper_free a d (get_or xs k Free) (all k)))
-    (λ (h : length xs ≤ k). rw (get_or_past (map (released a d) xs) k Free (rw length-map h)) refl)
+    (λ (h : k < length xs). rw (get_or-map (released a d) xs k None None h) (proper_free a d (get_or xs k None) (all k)))
+    (λ (h : length xs ≤ k). rw (get_or_past (map (released a d) xs) k None (rw length-map h)) refl)
     (cases_lt k (length xs))
 
 -- free places are as they were
-free_released : (xs : List Place) (a d : ℕ) → ((k : ℕ) → get_or xs k Free ≡ Free) → map (released a d) xs ≡ xs
+free_released : (xs : List Place) (a d : ℕ) → ((k : ℕ) → get_or xs k None ≡ None) → map (released a d) xs ≡ xs
 free_released [] a d free = refl
 free_released (x ∷ xs) a d free =
     let here : released a d x ≡ x = rw (free 0) refl in
@@ -82,8 +83,8 @@ front_released (suc n) (x ∷ xs) a d rest =
 pub rest_released : (n : ℕ) (xs : List Place) (a d : ℕ) → FreeFrom n xs → FreeFrom n (map (released a d) xs)
 rest_released n xs a d rest k h =
     ⊎_elim
-    (λ (l : k < length xs). get_or-map (released a d) xs k Free Free l ∙ rw (rest k h) refl)
-    (λ (l : length xs ≤ k). get_or_past (map (released a d) xs) k Free (rw length-map l))
+    (λ (l : k < length xs). get_or-map (released a d) xs k None None l ∙ rw (rest k h) refl)
+    (λ (l : length xs ≤ k). get_or_past (map (released a d) xs) k None (rw length-map l))
     (cases_lt k (length xs))
 
 -- the balances of places that hold the same, and of places where one sum is another
@@ -101,10 +102,10 @@ unfolding note_balances
 balance_held xs a d long ha hd = grind (arith, nat_tests)
 
 -- a note put into a free place
-module _ (xs : List Place) (i : ℕ) (n : Note) (long : 1024 ≤ length xs) (within : i < length xs) (free : get_or xs i Free ≡ Free) (ha : n.owner < 24) (hd : n.denomination < 32) where
-  added_each : (a d : ℕ) → held (set xs i (Held n)) a d ≡ cond (eqb a n.owner && eqb d n.denomination) (note_balances xs 0 n.owner n.denomination + n.amount) (held xs a d)
+module _ (xs : List Place) (i : ℕ) (n : Note) (long : 1024 ≤ length xs) (within : i < length xs) (free : get_or xs i None ≡ None) (ha : n.owner < 24) (hd : n.denomination < 32) where
+  added_each : (a d : ℕ) → held (set xs i (Some n)) a d ≡ cond (eqb a n.owner && eqb d n.denomination) (note_balances xs 0 n.owner n.denomination + n.amount) (held xs a d)
   added_each a d =
-      let on = rw free at (held_set xs i (Held n) within a d) in
+      let on = rw free at (held_set xs i (Some n) within a d) in
       let was = balance_held xs n.owner n.denomination long ha hd in
       ⊎_elim
       (λ (e : a ≡ n.owner). ⊎_elim
@@ -116,30 +117,42 @@ module _ (xs : List Place) (i : ℕ) (n : Note) (long : 1024 ≤ length xs) (wit
       (λ (e : a ≡ n.owner → ⊥). grind (arith, nat_tests))
       (cases_eq a n.owner)
 
-  pub note_added : note_balances (set xs i (Held n)) ≡ put (note_balances xs) 0 n.owner n.denomination (note_balances xs 0 n.owner n.denomination + n.amount)
-  note_added = balances_put xs (set xs i (Held n)) n.owner n.denomination _ long (length-set xs i (Held n)) ha hd added_each
+  pub note_added : note_balances (set xs i (Some n)) ≡ put (note_balances xs) 0 n.owner n.denomination (note_balances xs 0 n.owner n.denomination + n.amount)
+  note_added = balances_put xs (set xs i (Some n)) n.owner n.denomination _ long (length-set xs i (Some n)) ha hd added_each
 
--- the adding-up routine: which places count does not depend on their number
-column_total : (w : Column) (xs : List Place) → counted (λ p i. amount_of p) (note_in w) xs ≡ total (λ p. gate (note_in w p 0) (amount_of p)) xs
-column_total w xs = counted_total (λ p i. amount_of p) (note_in w) amount_of (λ p. note_in w p 0) (λ p i. refl) same xs
+-- what the adding-up routine gives for a column of places
+abbrev pub notes_counted : Column → List Place → ℕ
+notes_counted w xs = counted (amount_held (λ (n : Note) i. n.amount)) (held_counts (note_in w)) xs
+
+-- a place with a note of the column
+abbrev in_column : Column → Place → Bool
+in_column w p = held_counts (note_in w) p 0
+
+-- which places count does not depend on their number
+column_total : (w : Column) (xs : List Place) → notes_counted w xs ≡ total (λ p. gate (in_column w p) (amount_of p)) xs
+column_total w xs = counted_total (amount_held (λ (n : Note) i. n.amount)) (held_counts (note_in w)) amount_of (in_column w) worth same xs
   where
-    same : (p : Place) (i : ℕ) → note_in w p i ≡ note_in w p 0
-    same Free i = refl
-    same (Held n) i = refl
+    worth : (p : Place) (i : ℕ) → amount_held (λ (n : Note) i. n.amount) p i ≡ amount_of p
+    worth None i = refl
+    worth (Some n) i = refl
+
+    same : (p : Place) (i : ℕ) → held_counts (note_in w) p i ≡ in_column w p
+    same None i = refl
+    same (Some n) i = refl
 
 -- one account
-one_share : (w : Column) (a : ℕ) → w.from ≡ a → w.to ≡ a + 1 → (p : Place) → gate (note_in w p 0) (amount_of p) ≡ share a w.denomination p
-one_share w a e f Free = refl
-one_share w a e f (Held n) = grind (arith, nat_tests)
+one_share : (w : Column) (a : ℕ) → w.from ≡ a → w.to ≡ a + 1 → (p : Place) → gate (in_column w p) (amount_of p) ≡ share a w.denomination p
+one_share w a e f None = refl
+one_share w a e f (Some n) = grind (arith, nat_tests)
 
-account_held : (w : Column) (xs : List Place) (a : ℕ) → w.from ≡ a → w.to ≡ a + 1 → counted (λ p i. amount_of p) (note_in w) xs ≡ held xs a w.denomination
+account_held : (w : Column) (xs : List Place) (a : ℕ) → w.from ≡ a → w.to ≡ a + 1 → notes_counted w xs ≡ held xs a w.denomination
 unfolding held
 account_held w xs a e f = column_total w xs ∙ total_same _ _ (one_share w a e f) xs
 
 -- the first accounts
-each_share : (w : Column) → w.from ≡ 0 → (p : Place) → sum_below w.to (λ a. share a w.denomination p) ≡ gate (note_in w p 0) (amount_of p)
-each_share w e Free = sum_zero w.to
-each_share w e (Held n) =
+each_share : (w : Column) → w.from ≡ 0 → (p : Place) → sum_below w.to (λ a. share a w.denomination p) ≡ gate (in_column w p) (amount_of p)
+each_share w e None = sum_zero w.to
+each_share w e (Some n) =
     ⊎_elim
     (λ (h : n.owner < w.to).
     sum_same w.to _ (λ a. gate (eqb a n.owner) (gate (eqb n.denomination w.denomination) n.amount)) (λ a l. grind (arith, nat_tests))
@@ -151,15 +164,15 @@ each_share w e (Held n) =
     ∙ grind (arith, nat_tests))
     (cases_lt n.owner w.to)
 
-column_held : (w : Column) → w.from ≡ 0 → (xs : List Place) → total (λ p. gate (note_in w p 0) (amount_of p)) xs ≡ sum_below w.to (λ a. held xs a w.denomination)
+column_held : (w : Column) → w.from ≡ 0 → (xs : List Place) → total (λ p. gate (in_column w p) (amount_of p)) xs ≡ sum_below w.to (λ a. held xs a w.denomination)
 unfolding held
 column_held w e [] = sym (sum_zero w.to)
 column_held w e (x ∷ xs) =
-    let rest : total (λ p. gate (note_in w p 0) (amount_of p)) xs ≡ sum_below w.to (λ a. total (share a w.denomination) xs) = column_held w e xs in
+    let rest : total (λ p. gate (in_column w p) (amount_of p)) xs ≡ sum_below w.to (λ a. total (share a w.denomination) xs) = column_held w e xs in
     omega (arith, each_share w e x, rest, sum_add w.to (λ a. share a w.denomination x) (λ a. total (share a w.denomination) xs))
 
 -- places that are all free hold nothing
-free_held : (xs : List Place) → ((k : ℕ) → get_or xs k Free ≡ Free) → (a d : ℕ) → held xs a d ≡ 0
+free_held : (xs : List Place) → ((k : ℕ) → get_or xs k None ≡ None) → (a d : ℕ) → held xs a d ≡ 0
 unfolding held
 free_held [] free a d = refl
 free_held (x ∷ xs) free a d =
@@ -178,30 +191,26 @@ held_front (suc n) (x ∷ xs) rest a d =
 
 -- and adding up the front gives the balances
 module _ (w : Column) (n : ℕ) (xs : List Place) (rest : FreeFrom n xs) (long : 1024 ≤ length xs) (known : w.denomination < 32) where
-  pub account_counted : (a : ℕ) → w.from ≡ a → w.to ≡ a + 1 → a < 24 → counted (λ p i. amount_of p) (note_in w) (take n xs) ≡ note_balances xs 0 a w.denomination
+  pub account_counted : (a : ℕ) → w.from ≡ a → w.to ≡ a + 1 → a < 24 → notes_counted w (take n xs) ≡ note_balances xs 0 a w.denomination
   account_counted a e f h =
       account_held w (take n xs) a e f
       ∙ held_front n xs rest a w.denomination
       ∙ sym (balance_held xs a w.denomination long h known)
 
-  pub column_counted : w.from ≡ 0 → w.to ≤ 24 → counted (λ p i. amount_of p) (note_in w) (take n xs) ≡ sum_below w.to (λ a. note_balances xs 0 a w.denomination)
+  pub column_counted : w.from ≡ 0 → w.to ≤ 24 → notes_counted w (take n xs) ≡ sum_below w.to (λ a. note_balances xs 0 a w.denomination)
   column_counted e few =
       column_total w (take n xs)
       ∙ column_held w e (take n xs)
       ∙ sum_same w.to _ _ (λ a h. held_front n xs rest a w.denomination ∙ sym (balance_held xs a w.denomination long (omega arith) known))
 
 -- places that are all free
-module _ (xs : List Place) (free : (k : ℕ) → get_or xs k Free ≡ Free) where
+module _ (xs : List Place) (free : (k : ℕ) → get_or xs k None ≡ None) where
   pub free_proper : Proper xs
   free_proper k = rw (free k) refl
 
-free_balances : (xs : List Place) → ((k : ℕ) → get_or xs k Free ≡ Free) → note_balances xs ≡ (λ _ _ _. 0)
+pub free_balances : (xs : List Place) → ((k : ℕ) → get_or xs k None ≡ None) → note_balances xs ≡ (λ _ _ _. 0)
 unfolding note_balances
 free_balances xs free = fun_ext λ c. fun_ext λ a. fun_ext λ d. let h = free_held xs free a d in grind (arith, nat_tests)
 
-pub freed_meaning : (xs ys : List Place) → ((k : ℕ) → get_or xs k Free ≡ Free) → length xs ≡ length ys → notes_meaning xs ≡ empty (note_chains ys)
-freed_meaning xs ys free e =
-    ap (without_bars (note_chains xs)) (free_balances xs free) ∙ ap (λ (n : ℕ). empty (cond (ltb n 1024) 0 1)) e
-
-pub freed_supplies : (xs : List Place) → ((k : ℕ) → get_or xs k Free ≡ Free) → (c d : ℕ) → supply (note_balances xs) c d ≤ most
+pub freed_supplies : (xs : List Place) → ((k : ℕ) → get_or xs k None ≡ None) → (c d : ℕ) → supply (note_balances xs) c d ≤ most
 freed_supplies xs free c d = omega (arith, ap (λ (b : Balances). supply b c d) (free_balances xs free), sum_zero 24)

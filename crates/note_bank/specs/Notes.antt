@@ -1,56 +1,56 @@
 -- What places with notes mean as a ledger: one chain, a balance the sum of its notes, and no bars.
 use Rattle.std.specs.Prelude.{◌≡◌, ℕ, ◌+◌, ◌*◌, ◌<◌, ◌≤◌, Bool, true, false, cond, ◌&&◌, List, length, is_some, Some, None, Option, ◌==◌, nat_le, nat_lt, slice_index_or, refl}
+use Rattle.std.specs.Option.{option_map}
 use Rattle.std.proofs.lemmas.Bool.{le-ltb}
 use Rattle.sums.specs.Sums.{total, gate}
 use Rattle.sums.specs.declared.Column.{Column}
 use Rattle.protocol.specs.House.{most, accounts, denoms_most}
-use Rattle.protocol.specs.Ledger.{Balances, Ledger, Lawful, supply}
-use Rattle.ledger.specs.Empty.{without_bars}
+use Rattle.protocol.specs.Ledger.{Balances, supply}
+use Rattle.bank.specs.OneChain.{Kept}
 use Rattle.note_bank.specs.declared.place.Note.{Note}
-use Rattle.note_bank.specs.declared.place.Place.{Place}
-use Rattle.note_bank.specs.declared.place.Place.TheVariants.{Free, Held}
+
+-- a place holds a note, or is free
+abbrev pub Place : Type 0
+Place = Option Note
 
 -- a note's amount; a free place has none
 abbrev pub amount_of : Place → ℕ
-amount_of Free = 0
-amount_of (Held n) = n.amount
+amount_of None = 0
+amount_of (Some n) = n.amount
 
 -- a note of denomination d that belongs to account a
 abbrev pub belongs : ℕ → ℕ → Place → Bool
-belongs a d Free = false
-belongs a d (Held n) = n.owner == a && n.denomination == d
+belongs a d None = false
+belongs a d (Some n) = n.owner == a && n.denomination == d
 
 -- what a place adds to the balance of account a and denomination d
 abbrev pub share : ℕ → ℕ → Place → ℕ
 share a d p = gate (belongs a d p) (amount_of p)
 
 -- a note of a column's denomination that belongs to one of its accounts
-abbrev pub note_in : Column → Place → ℕ → Bool
-note_in w Free i = false
-note_in w (Held n) i =
-    (n.denomination == w.denomination) && (nat_le w.from n.owner && nat_lt n.owner w.to)
+abbrev pub note_in : Column → Note → ℕ → Bool
+note_in w n i = (n.denomination == w.denomination) && (nat_le w.from n.owner && nat_lt n.owner w.to)
 
 -- a note is of an account and a denomination that there are, and its amount is at least 1
 abbrev pub proper : Place → Bool
-proper Free = true
-proper (Held n) = nat_lt n.owner accounts && (nat_lt n.denomination denoms_most && nat_lt 0 n.amount)
+proper None = true
+proper (Some n) = nat_lt n.owner accounts && (nat_lt n.denomination denoms_most && nat_lt 0 n.amount)
 
 -- all notes are
 abbrev pub Proper : List Place → Type 0
-Proper xs = (k : ℕ) → proper (slice_index_or xs k Free) ≡ true
+Proper xs = (k : ℕ) → proper (slice_index_or xs k None) ≡ true
 
 -- every place from place n on is free
 abbrev pub FreeFrom : ℕ → List Place → Type 0
-FreeFrom n xs = (k : ℕ) → n ≤ k → slice_index_or xs k Free ≡ Free
+FreeFrom n xs = (k : ℕ) → n ≤ k → slice_index_or xs k None ≡ None
 
 -- account and denomination of a note as one number
 abbrev pub pair_of : Place → Option ℕ
-pair_of Free = None
-pair_of (Held n) = Some (n.owner * 32 + n.denomination)
+pair_of p = option_map (λ (n : Note). n.owner * 32 + n.denomination) p
 
 -- every place holds a note
 abbrev pub Full : List Place → Type 0
-Full xs = (k : ℕ) → k < length xs → is_some (pair_of (slice_index_or xs k Free)) ≡ true
+Full xs = (k : ℕ) → k < length xs → is_some (slice_index_or xs k None) ≡ true
 
 -- two notes of one account and denomination
 abbrev pub Alike : Place → Place → Type 0
@@ -62,7 +62,7 @@ joint_note n k = record { owner = n.owner; denomination = n.denomination; amount
 
 -- a place without the notes of account a and denomination d
 abbrev pub released : ℕ → ℕ → Place → Place
-released a d p = cond (belongs a d p) Free p
+released a d p = cond (belongs a d p) None p
 
 -- one chain takes 1,024 places; over less memory none is served
 abbrev pub note_chains : List Place → ℕ
@@ -76,15 +76,7 @@ held xs a d = total (share a d) xs
 unfoldable pub note_balances : List Place → Balances
 note_balances xs c a d = cond (nat_lt c (note_chains xs) && nat_lt a accounts && nat_lt d denoms_most) (held xs a d) 0
 
--- the ledger that places with notes mean
-abbrev pub notes_meaning : List Place → Ledger
-notes_meaning xs = without_bars (note_chains xs) (note_balances xs)
-
--- where supplies are in bounds, both laws hold
-pub notes_lawful : (xs : List Place) → ((c d : ℕ) → supply (note_balances xs) c d ≤ most) → Lawful (notes_meaning xs)
-notes_lawful xs h = record { supplies = h; bars = λ c u e. refl }
-
--- a chain that is not served has no balance
-pub notes_unserved : (xs : List Place) (c a d : ℕ) → note_chains xs ≤ c → note_balances xs c a d ≡ 0
+-- where supplies are in bounds, that is all that a bank asks of its store: a chain that is not served has no balance
+pub notes_kept : (xs : List Place) → ((c d : ℕ) → supply (note_balances xs) c d ≤ most) → Kept (note_chains xs) (note_balances xs)
 unfolding note_balances
-notes_unserved xs c a d h = rw (le-ltb c (note_chains xs) h) refl
+notes_kept xs h = record { supplies = h; unserved = λ c a d out. rw (le-ltb c (note_chains xs) out) refl }

@@ -1,9 +1,9 @@
 // The note bank: one chain's balances as notes, each in a place of its own.
 #![tactic(auto)]
 
-mod bank;
+mod notes;
 mod pairs;
 mod place;
 
-pub use bank::NoteBank;
+pub use notes::{NoteBank, Notes};
 pub use place::{Note, Place};

@@ -2,24 +2,18 @@
 ghost use Rattle.std.specs.Prelude.{◌≡◌, ℕ, ◌+◌, ◌<◌, ◌≤◌, map, length, MatchOption, slice_index_or};
 ghost use Rattle.protocol.specs.House.{most};
 ghost use Rattle.note_bank.specs.Notes.{Proper, Full, Alike, amount_of, belongs, joint_note, held, released};
-ghost use Rattle.note_bank.specs.declared.place.Place.TheVariants.{Free};
 
 use crate::place::{Note, Place};
-use protocol::DENOMINATIONS;
+use protocol::{ACCOUNTS, DENOMINATIONS};
 
 // How many pairs of an account and a denomination there are.
-const PAIRS: usize = 768;
+const PAIRS: usize = ACCOUNTS * DENOMINATIONS;
 
 // A free place, if there is one.
 pub(crate) fn find_free(places: &[Place]) -> Option<usize>
-    ensures { MatchOption result (Full places.now) (λ i. (i < length places.now) × (slice_index_or places.now i Free ≡ Free)) }
+    ensures { MatchOption result (Full places.now) (λ i. (i < length places.now) × (slice_index_or places.now i None ≡ None)) }
 {
-    for (index, place) in places.iter().enumerate() {
-        if let Place::Free = place {
-            return Some(index);
-        }
-    }
-    None
+    places.iter().position(|place| place.is_none())
 }
 
 // Two notes of one owner and denomination. Where each of more than 768 places holds a note, there are two.
@@ -29,11 +23,11 @@ pub(crate) fn find_pair(places: &[Place]) -> (usize, usize)
     requires notes { Proper places.now }
     ensures order { result.0 < result.1 }
     ensures within { result.1 < length places.now }
-    ensures alike { Alike (slice_index_or places.now result.0 Free) (slice_index_or places.now result.1 Free) }
+    ensures alike { Alike (slice_index_or places.now result.0 None) (slice_index_or places.now result.1 None) }
 {
     let mut seen: [Option<usize>; PAIRS] = [None; PAIRS];
     for (index, place) in places.iter().enumerate() {
-        if let Place::Held(note) = place {
+        if let Some(note) = place {
             let pair = note.owner * DENOMINATIONS + note.denomination;
             if let Some(earlier) = seen[pair] {
                 return (earlier, index);
@@ -61,16 +55,16 @@ pub(crate) fn join(places: &mut [Place], first: usize, second: usize)
     requires order { first < second }
     requires within { second < length places.old }
     requires notes { Proper places.old }
-    requires alike { Alike (slice_index_or places.old first Free) (slice_index_or places.old second Free) }
-    requires fits { amount_of (slice_index_or places.old first Free) + amount_of (slice_index_or places.old second Free) ≤ most }
+    requires alike { Alike (slice_index_or places.old first None) (slice_index_or places.old second None) }
+    requires fits { amount_of (slice_index_or places.old first None) + amount_of (slice_index_or places.old second None) ≤ most }
     ensures same { (a d : ℕ) → held places.new a d ≡ held places.old a d }
-    ensures free { slice_index_or places.new second Free ≡ Free }
+    ensures free { slice_index_or places.new second None ≡ None }
     ensures notes { Proper places.new }
-    ensures behind { (k : ℕ) → second < k → slice_index_or places.new k Free ≡ slice_index_or places.old k Free }
+    ensures behind { (k : ℕ) → second < k → slice_index_or places.new k None ≡ slice_index_or places.old k None }
 {
-    if let (Place::Held(kept), Place::Held(joined)) = (places[first], places[second]) {
-        places[first] = Place::Held(joint(kept, joined));
-        places[second] = Place::Free;
+    if let (Some(kept), Some(joined)) = (places[first], places[second]) {
+        places[first] = Some(joint(kept, joined));
+        places[second] = None;
     }
 }
 
@@ -78,10 +72,7 @@ pub(crate) fn join(places: &mut [Place], first: usize, second: usize)
 fn is_note_of(place: &Place, owner: usize, denomination: usize) -> bool
     ensures { result ≡ belongs owner denomination place.now }
 {
-    match place {
-        Place::Free => false,
-        Place::Held(note) => note.owner == owner && note.denomination == denomination,
-    }
+    place.is_some_and(|note| note.owner == owner && note.denomination == denomination)
 }
 
 // Frees each place with a note of that owner and denomination.
@@ -90,16 +81,7 @@ pub(crate) fn release(places: &mut [Place], owner: usize, denomination: usize)
 {
     for place in places.iter_mut() {
         if is_note_of(place, owner, denomination) {
-            *place = Place::Free;
+            *place = None;
         }
-    }
-}
-
-// Frees every place.
-pub(crate) fn free_all(places: &mut [Place])
-    ensures { (k : ℕ) → slice_index_or places.new k Free ≡ Free }
-{
-    for place in places.iter_mut() {
-        *place = Place::Free;
     }
 }

@@ -1,4 +1,4 @@
-ghost use Rattle.note_bank.specs.Notes.{amount_of, note_in};
+ghost use Rattle.note_bank.specs.Notes.{note_in};
 
 use sums::{Column, Row};
 
@@ -10,33 +10,19 @@ pub struct Note {
     pub(crate) amount: u64,
 }
 
-/// A place of the bank's memory.
-#[derive(Clone, Copy)]
-pub enum Place {
-    Free,
-    Held(Note),
-}
+/// A place of the bank's memory: it holds a note, or is free.
+pub type Place = Option<Note>;
 
-impl Row<Column> for Place {
-    ghost amount = { λ w p i. amount_of p };
+impl Row<Column> for Note {
+    ghost amount = { λ w n i. n.amount };
 
     ghost counts = { note_in };
 
     fn worth(&self, _which: &Column, _place: usize) -> u64 {
-        match self {
-            Place::Free => 0,
-            Place::Held(note) => note.amount,
-        }
+        self.amount
     }
 
     fn chosen(&self, which: &Column, _place: usize) -> bool {
-        match self {
-            Place::Free => false,
-            Place::Held(note) => {
-                note.denomination == which.denomination
-                    && which.from <= note.owner
-                    && note.owner < which.to
-            }
-        }
+        self.denomination == which.denomination && which.from <= self.owner && self.owner < which.to
     }
 }

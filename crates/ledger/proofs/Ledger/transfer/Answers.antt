@@ -14,8 +14,8 @@ returns g c =
     let from_in : c.args.from < 24 = omega arith in
     let to_in : c.args.to < 24 = omega arith in
     let free : first (debit_refusals m c.args.chain c.args.from c.args.denomination c.args.amount) ≡ None =
-    free_from_ok _ tt tt (sym c.in_default.ensures.answer) in
-    let left : g.Self.Ledger.meaning c.debit.new.self ≡ with_balances m (debited m.balance c.args.chain c.args.from c.args.denomination c.args.amount) = c.in_default.ensures.after in
+    free_from_ok _ tt tt (sym c.in_ok-debit.ensures.answer) in
+    let left : g.Self.Ledger.meaning c.debit.new.self ≡ with_balances m (debited m.balance c.args.chain c.args.from c.args.denomination c.args.amount) = c.in_ok-debit.ensures.after in
     let none = credit_free m law c.args.chain c.args.from c.args.to c.args.denomination c.args.amount from_in to_in free in
     let never = move_free m law c.args.chain c.args.from c.args.to c.args.denomination c.args.amount from_in to_in free in
     let told = rw left at c.credit.ensures.answer in

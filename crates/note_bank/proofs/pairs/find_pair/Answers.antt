@@ -2,19 +2,18 @@ use Rattle.std.proofs.Common.{◌≡◌, ℕ, ◌+◌, ◌*◌, ◌<◌, true, L
 use Rattle.std.proofs.lemmas.Bool.Decides.{nat_tests}
 use Rattle.sums.specs.Sums.{count}
 use Rattle.note_bank.specs.Notes.{proper, pair_of}
-use Rattle.note_bank.specs.declared.place.Place.TheVariants.{Held}
 use Rattle.note_bank.proofs.Seen.{Noted, count_most, count_more, none_seen, noted_more}
 use Rattle.note_bank.proofs.pairs.find_pair.Goals as goal
-use Rattle.note_bank.proofs.pairs.find_pair.Goals.{in-Held+in_default-seen, in_default}
+use Rattle.note_bank.proofs.pairs.find_pair.Goals.{in-Some+in_default-seen, in_default}
 
 pub loop-index-init : goal.loop-index-init
 loop-index-init c = (refl, λ q k e. absurd (none_seen 768 k q e), refl)
 
-pub returns-in-Some : goal.returns-in-Some
-returns-in-Some c =
-    let pair = c.in-Held.note.owner * 32 + c.in-Held.note.denomination in
-    let noted = c.loop-index.invariant.1 pair c.in-Some.earlier c.in-Some.is in
-    let here : pair_of _ ≡ Some pair = ap pair_of c.in-Held.is in
+pub returns-in-Some-seen : goal.returns-in-Some-seen
+returns-in-Some-seen c =
+    let pair = c.in-Some.note.owner * 32 + c.in-Some.note.denomination in
+    let noted = c.loop-index.invariant.1 pair c.in-Some-seen.earlier c.in-Some-seen.is in
+    let here : pair_of _ ≡ Some pair = ap pair_of c.in-Some.is in
     record {
       order = noted.0;
       within = c.loop-index-test.true;
@@ -28,15 +27,15 @@ loop-index-preserved c =
     let i = c.loop-index.index in
     let Kept : List (Option ℕ) → Type 0 = λ s. (count is_some s ≡ i + 1) × Noted xs s (i + 1) × (length s ≡ 768) in
     elim c.match-place.branch [
-      | in-Held+in_default-seen w ↦
-          let n = w.in-Held.note in
+      | in-Some+in_default-seen w ↦
+          let n = w.in-Some.note in
           let pair = n.owner * 32 + n.denomination in
-          let note : proper (Held n) ≡ true = rw w.in-Held.is at (c.requires.notes i) in
+          let note : proper (Some n) ≡ true = rw w.in-Some.is at (c.requires.notes i) in
           let small : pair < 768 = grind (arith, nat_tests) in
           let within : pair < length seen = omega (arith, c.loop-index.invariant.2) in
           subst Kept (sym w.seen-is) (
             count_more xs seen i pair within w.in_default-seen.is c.loop-index.invariant.0,
-            noted_more xs seen i pair within w.in_default-seen.is c.loop-index.invariant.1 (ap pair_of w.in-Held.is),
+            noted_more xs seen i pair within w.in_default-seen.is c.loop-index.invariant.1 (ap pair_of w.in-Some.is),
             rw length-set c.loop-index.invariant.2,
           )
       | in_default w ↦

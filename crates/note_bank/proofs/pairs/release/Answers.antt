@@ -1,17 +1,15 @@
-use Rattle.std.proofs.Common.{◌≡◌, ℕ, ◌<◌, true, false, List, ◌++◌, map, length, get_or, drop, set, sym, refl, ap, ◌∙◌, append-nil, arith, take_all}
+use Rattle.std.proofs.Common.{◌≡◌, ℕ, ◌<◌, true, false, List, ◌++◌, map, length, get_or, drop, set, sym, refl, ap, ◌∙◌, append-nil, arith, take_all, None}
 use Rattle.std.proofs.lemmas.List.Edits.{map_over_more}
 use Rattle.std.proofs.lemmas.List.{get_or_default, drop_all}
-use Rattle.note_bank.specs.Notes.{belongs, released}
-use Rattle.note_bank.specs.declared.place.Place.{Place}
-use Rattle.note_bank.specs.declared.place.Place.TheVariants.{Free}
+use Rattle.note_bank.specs.Notes.{belongs, released, Place}
 use Rattle.note_bank.proofs.pairs.release.Goals as goal
 use Rattle.note_bank.proofs.pairs.release.Goals.{then-is_note_of, else-is_note_of}
 
 -- a place is freed where it is one of those, and else left as it is
-freed : (a d : ℕ) (xs : List Place) (i : ℕ) → belongs a d (get_or xs i Free) ≡ true → set xs i Free ≡ set xs i (released a d (get_or xs i Free))
+freed : (a d : ℕ) (xs : List Place) (i : ℕ) → belongs a d (get_or xs i None) ≡ true → set xs i None ≡ set xs i (released a d (get_or xs i None))
 freed a d xs i e = rw e refl
 
-left : (a d : ℕ) (xs : List Place) (i : ℕ) → belongs a d (get_or xs i Free) ≡ false → set xs i (get_or xs i Free) ≡ set xs i (released a d (get_or xs i Free))
+left : (a d : ℕ) (xs : List Place) (i : ℕ) → belongs a d (get_or xs i None) ≡ false → set xs i (get_or xs i None) ≡ set xs i (released a d (get_or xs i None))
 left a d xs i e = rw e refl
 
 pub loop-place-preserved : goal.loop-place-preserved
@@ -21,9 +19,9 @@ loop-place-preserved c =
     let i = c.loop-place.place-index in
     let a = c.args.owner in
     let d = c.args.denomination in
-    let x = get_or ys i Free in
+    let x = get_or ys i None in
     let in_ys : i < length ys = omega arith in
-    let on : set ys i (released a d x) ≡ _ = map_over_more (released a d) xs ys i x (omega arith) c.loop-place.invariant (get_or_default ys i Free x in_ys) in
+    let on : set ys i (released a d x) ≡ _ = map_over_more (released a d) xs ys i x (omega arith) c.loop-place.invariant (get_or_default ys i None x in_ys) in
     elim c.if-is_note_of.branch [
       | then-is_note_of w ↦ w.places-is ∙ freed a d ys i (sym c.is_note_of.ensures ∙ w.if-is_note_of.true) ∙ on
       | else-is_note_of w ↦ w.places-is ∙ left a d ys i (sym c.is_note_of.ensures ∙ w.if-is_note_of.false) ∙ on

@@ -1,5 +1,0 @@
-use Rattle.books.proofs.Tables.{none_marked}
-use Rattle.books.proofs.marks.Marks.wipe.Goals as goal
-
-pub returns : goal.returns
-returns c = none_marked 16384
