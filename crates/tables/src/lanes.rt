@@ -55,9 +55,8 @@ impl Links {
 impl Tables {
     /// Whether a timeout height is not 0 nor above a chain's height.
     pub fn has_passed(&self, chain: usize, timeout: u64) -> bool
-        requires { chain < 8 }
         ensures { result ≡ (not (timeout == 0) && nat_le timeout (slice_index self.now.heights chain)) }
     {
-        timeout != 0 && timeout <= self.heights[chain]
+        timeout != 0 && self.heights.get(chain).is_some_and(|height| timeout <= *height)
     }
 }

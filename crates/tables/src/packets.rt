@@ -20,10 +20,7 @@ impl Packet {
     fn stands_below(&self, lane: usize, sequence: usize) -> bool
         ensures { result ≡ stands_below lane sequence (packet_view self.now) }
     {
-        match self.standing {
-            Standing::Stands => self.lane == lane && self.sequence < sequence,
-            Standing::Ended => false,
-        }
+        self.standing == Standing::Stands && self.lane == lane && self.sequence < sequence
     }
 
     /// What an event comes to.
