@@ -1,10 +1,10 @@
 -- Keys of the code and what they stand for: a search finds the same number among both, and a key offered joins both.
-use Rattle.std.proofs.Common.{◌≡◌, ℕ, suc, ◌+◌, ◌≤◌, Bool, true, false, cond, ltb, List, [], ◌∷◌, ◌++◌, map, length, take, set, Some, None, Option, sym, refl, ap, ◌∙◌, arith, ltb-true, ltb-false, lt-ltb, le-ltb, leb-true, leb-false, length-take-le, not, leb, ◌&&◌, ◌||◌}
+use Rattle.std.proofs.Common.{◌≡◌, ℕ, suc, ◌+◌, ◌<◌, ◌≤◌, Bool, true, false, cond, ltb, List, [], ◌∷◌, ◌++◌, map, length, get_or, take, set, Some, None, Option, sym, refl, ap, ◌∙◌, arith, ltb-true, ltb-false, lt-ltb, le-ltb, leb-true, leb-false, length-take-le, not, leb, ◌&&◌, ◌||◌}
 use Rattle.std.specs.Option.{option_or}
 use Rattle.std.specs.Bool.{then_some}
 use Rattle.register.proofs.Places.{place_le}
 use Rattle.std.specs.List.{position, position_or_len, list_any}
-use Rattle.std.proofs.lemmas.List.{map_push, take_more_set}
+use Rattle.std.proofs.lemmas.List.{map_push, take_more_set, get_or-map}
 use Rattle.std.proofs.lemmas.Bool.Decides.{nat_tests}
 use Rattle.std.proofs.lemmas.List.Recursion.{is_position_or_len}
 use lib.ListN.{length-map}
@@ -29,6 +29,15 @@ number_some p xs n e = go (found p xs) refl e
     go : (b : Bool) → found p xs ≡ b → ◌≡◌ {A = Option ℕ} (cond b (Some (place p xs)) None) (Some n) → (found p xs ≡ true) × (place p xs ≡ n)
     go true t f = (t, cc)
     go false t f = let z : ◌≡◌ {A = ℕ} 0 1 = cc in absurd (omega arith)
+
+-- the row at a number that was found stands for what is found there
+pub found_row :
+    {X Y : Type 0} (f : X → Y) (p : Y → Bool) (rows : List X) (n : ℕ) (x : X) (d : Y) → Some n ≡ number_of p (map f rows) → x ≡ get_or rows n x →
+    f x ≡ get_or (map f rows) n d
+found_row f p rows n x d e read =
+    let at = number_some p (map f rows) n (sym e) in
+    let within : n < length rows = omega (arith, at.1, ltb-true _ _ at.0, length-map rows f) in
+    ap f read ∙ sym (get_or-map f rows n x d within)
 
 -- the library's word for the same
 place_is : {X : Type 0} (p : X → Bool) (xs : List X) → place p xs ≡ position_or_len p xs
@@ -66,14 +75,20 @@ module _ {X : Type 0} (ks : List X) (n room : ℕ) (full : length ks ≡ room) (
   pub offer_answered : (o : Option ℕ) → kept_number (length ks) n o ≡ kept_number room (length (take n ks)) o
   offer_answered o = λ i. kept_number (full i) (sym (length-take-le n ks within) i) o
 
--- What the keys stand for after one was offered.
-pub joined_seen : {X Y : Type 0} (f : X → Y) (room : ℕ) (k : X) (xs : List X) (o : Option ℕ) → map f (joined room k xs o) ≡ joined room (f k) (map f xs) o
-joined_seen f room k xs (Some i) = refl
-joined_seen f room k xs None = go (ltb (length xs) room) ∙ (λ i. cond (ltb (sym (length-map xs f) i) room) (map f xs ++ f k ∷ []) (map f xs))
+-- what the keys stand for after one was offered
+pub joined_seen :
+    {X Y : Type 0} (f : X → Y) (p : Y → Bool) (room : ℕ) (k : X) (old new : List X) → new ≡ joined room k old (number_of (λ x. p (f x)) old) →
+    map f new ≡ joined room (f k) (map f old) (number_of p (map f old))
+joined_seen f p room k old new e =
+    ap (map f) e ∙ go (number_of (λ x. p (f x)) old) ∙ ap (joined room (f k) (map f old)) (sym (number_map f p old))
   where
-    go : (b : Bool) → map f (cond b (xs ++ k ∷ []) xs) ≡ cond b (map f xs ++ f k ∷ []) (map f xs)
-    go true = map_push f xs k
-    go false = refl
+    pushed : (b : Bool) → map f (cond b (old ++ k ∷ []) old) ≡ cond b (map f old ++ f k ∷ []) (map f old)
+    pushed true = map_push f old k
+    pushed false = refl
+
+    go : (o : Option ℕ) → map f (joined room k old o) ≡ joined room (f k) (map f old) o
+    go (Some i) = refl
+    go None = pushed (ltb (length old) room) ∙ (λ i. cond (ltb (sym (length-map old f) i) room) (map f old ++ f k ∷ []) (map f old))
 
 -- the number of a key, or else the next one where there is room for it
 pub number_or_next :

@@ -1,6 +1,7 @@
 -- The number under which an issue credits.
-use Rattle.std.proofs.Common.{◌≡◌, ℕ, ◌<◌, ◌≤◌, Bool, true, false, cond, not, ◌&&◌, ◌||◌, eqb, leb, List, [], ◌∷◌, length, is_some, IfSome, Some, None, Option, sym, refl, ap, ◌∙◌, arith, ltb-true, leb-false}
+use Rattle.std.proofs.Common.{◌≡◌, ℕ, ◌<◌, ◌≤◌, Bool, true, false, cond, not, ◌&&◌, ◌||◌, eqb, leb, List, [], ◌∷◌, length, is_some, IfSome, Some, None, Option, sym, refl, ap, ◌∙◌, arith, ltb, ltb-true, le-ltb, lt-ltb, leb-true, leb-false}
 use borrow.Author.Tests.{lt-leb}
+use Rattle.std.specs.Bool.{then_some}
 use Rattle.register.specs.Keys.{place, found, number_of}
 use Rattle.register.proofs.Places.{place_le, some_found}
 use Rattle.denom.specs.Denomination.{Denom, same_denom, hopless}
@@ -59,3 +60,22 @@ issue_left w c u s n d spelt chain user some room is low =
     5 when not (spelt i) ∷ 6 when not (chain i) ∷ 12 when over i ∷ 13 when some i ∷ 23 when room i
     ∷ 33 when too_large w.ledger.balance c (is i) n ∷ []))
     ∙ sym (λ i. first (6 when here i ∷ 12 when account i ∷ 13 when some i ∷ 14 when known i ∷ 33 when too_large w.ledger.balance c d n ∷ []))
+
+-- the number of a denomination, where its token is known or there is room for it
+pub number_if_room :
+    (known full : Bool) (n many place : ℕ) → Some n ≡ cond full None (Some place) →
+    then_some (known || ltb many 64) n ≡ cond ((not known && leb 64 many) || full) None (Some place)
+number_if_room known full n many place e =
+    let there = there_if full n place e in
+    rw (there.0, there.1) (go known (leb 64 many) refl)
+  where
+    go : (b f : Bool) → leb 64 many ≡ f → then_some (b || ltb many 64) place ≡ cond ((not b && f) || false) None (Some place)
+    go true f t = refl
+    go false true t = rw (le-ltb many 64 (leb-true 64 many t)) refl
+    go false false t = rw (lt-ltb many 64 (leb-false 64 many t)) refl
+
+-- and it is small where that number is
+pub small_if_room : (b : Bool) (n : ℕ) (o : Option ℕ) → o ≡ then_some b n → n < 32 → IfSome o (λ m. m < 32)
+small_if_room b n None e h = tt
+small_if_room true n (Some m) e h = let same : m ≡ n = cc in omega (arith, same, h)
+small_if_room false n (Some m) e h = let z : ◌≡◌ {A = ℕ} 0 1 = cc in absurd (omega arith)

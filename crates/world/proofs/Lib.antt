@@ -9,3 +9,4 @@ pub mod Deliveries
 pub mod Arrivals
 pub mod Refunds
 pub mod Settlements
+pub mod Entries

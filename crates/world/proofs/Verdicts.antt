@@ -1,5 +1,6 @@
 -- What a call comes to, once it is known which refusal applies first, or that none does.
-use Rattle.std.proofs.Common.{◌≡◌, ℕ, Some, None, Ok, Err, Option, Result, sym, ap, ◌∙◌, arith}
+use Rattle.std.proofs.Common.{◌≡◌, ℕ, Some, None, Ok, Err, Option, Result, sym, refl, ap, ◌∙◌, arith}
+use Rattle.std.specs.Option.{ok_or}
 use Rattle.protocol.specs.declared.faults.LedgerFault.{LedgerFault}
 use Rattle.protocol.specs.declared.faults.WorldFault.{WorldFault}
 use Rattle.protocol.specs.Faults.{told_by, ledger_number, world_number}
@@ -42,3 +43,21 @@ ended_by_ledger w k new last None (Ok x) (Err g) by out told left climbed = let 
 ended_by_ledger w k new last None (Err f) r by out told left climbed = let z : ◌≡◌ {A = ℕ} 0 1 = cc in absurd (omega arith)
 ended_by_ledger w k new last (Some n) (Ok x) r by out told left climbed = let z : ◌≡◌ {A = ℕ} 0 1 = cc in absurd (omega arith)
 ended_by_ledger w k new last (Some n) (Err f) (Ok y) by out told left climbed = let z : ◌≡◌ {A = ℕ} 0 1 = cc in absurd (omega arith)
+
+-- what `ok_or` goes on with is what there was
+pub there_was : {X E : Type 0} (o : Option X) (e : E) (x : X) → Ok x ≡ ok_or o e → o ≡ Some x
+there_was o e x s = grind arith
+
+-- where `ok_or` stops there was nothing, and its fault is the one given
+pub there_was_none : {X E : Type 0} (o : Option X) (e f : E) → Err f ≡ ok_or o e → (o ≡ None) × (f ≡ e)
+there_was_none None e f s = (refl, cc)
+there_was_none (Some x) e f s = let z : ◌≡◌ {A = ℕ} 0 1 = cc in absurd (omega arith)
+
+-- both clauses of a call that a refusal stops, which `?` hands on as the answer r
+pub handed_on :
+    {X : Type 0} (w : World) (k : Call) (says : X → Answer) (r : Result X WorldFault) (f : WorldFault) (n : ℕ) →
+    (g : WorldFault) × (r ≡ Err g) × (g ≡ f) → world_number f ≡ n → first (refusals w k) ≡ Some n →
+    (said says world_number r ≡ (step w k).1) × (w ≡ (step w k).0)
+handed_on w k says r f n (g, at, same) number by =
+    let stop = stopped w k n by in
+    (ap (said says world_number) at ∙ ap no (ap world_number same ∙ number) ∙ stop.0, stop.1)

@@ -29,8 +29,8 @@ impl<L: Ledger, F: Book, S: Book> World<L, F, S> {
         denomination: &Denomination,
         amount: u64,
     ) -> Result<(), WorldFault>
-        ensures answer { said (λ _. done) world_number result ≡ (step (view L.Ledger.meaning F.Book.meaning S.Book.meaning self.old) (retire chain user (denom_view denomination.now) amount)).1 }
-        ensures after { view L.Ledger.meaning F.Book.meaning S.Book.meaning self.new ≡ (step (view L.Ledger.meaning F.Book.meaning S.Book.meaning self.old) (retire chain user (denom_view denomination.now) amount)).0 }
+        ensures answer { said (λ _. done) world_number result ≡ (step (view L.meaning F.meaning S.meaning self.old) (retire chain user (denom_view denomination.now) amount)).1 }
+        ensures after { view L.meaning F.meaning S.meaning self.new ≡ (step (view L.meaning F.meaning S.meaning self.old) (retire chain user (denom_view denomination.now) amount)).0 }
     {
         if !self.serves(chain) {
             return Err(WorldFault::NoSuchChain);
@@ -41,9 +41,10 @@ impl<L: Ledger, F: Book, S: Book> World<L, F, S> {
         if amount == 0 {
             return Err(WorldFault::AmountOrStepZero);
         }
-        let Some(number) = self.tables.number_of(chain, denomination) else {
-            return Err(WorldFault::NotRegistered);
-        };
+        let number = self
+            .tables
+            .number_of(chain, denomination)
+            .ok_or(WorldFault::NotRegistered)?;
         if !denomination.is_hopless() {
             return Err(WorldFault::HasHops);
         }
@@ -59,8 +60,8 @@ impl<L: Ledger, F: Book, S: Book> World<L, F, S> {
         denomination: &Denomination,
         amount: u64,
     ) -> Result<(), WorldFault>
-        ensures answer { said (λ _. done) world_number result ≡ (step (view L.Ledger.meaning F.Book.meaning S.Book.meaning self.old) (pay chain user payee (denom_view denomination.now) amount)).1 }
-        ensures after { view L.Ledger.meaning F.Book.meaning S.Book.meaning self.new ≡ (step (view L.Ledger.meaning F.Book.meaning S.Book.meaning self.old) (pay chain user payee (denom_view denomination.now) amount)).0 }
+        ensures answer { said (λ _. done) world_number result ≡ (step (view L.meaning F.meaning S.meaning self.old) (pay chain user payee (denom_view denomination.now) amount)).1 }
+        ensures after { view L.meaning F.meaning S.meaning self.new ≡ (step (view L.meaning F.meaning S.meaning self.old) (pay chain user payee (denom_view denomination.now) amount)).0 }
     {
         if !self.serves(chain) {
             return Err(WorldFault::NoSuchChain);
@@ -71,28 +72,21 @@ impl<L: Ledger, F: Book, S: Book> World<L, F, S> {
         if amount == 0 {
             return Err(WorldFault::AmountOrStepZero);
         }
-        let Some(number) = self.tables.number_of(chain, denomination) else {
-            return Err(WorldFault::NotRegistered);
-        };
+        let number = self
+            .tables
+            .number_of(chain, denomination)
+            .ok_or(WorldFault::NotRegistered)?;
         climbed(self.ledger.transfer(chain, user, payee, number, amount))
     }
 
     // The number that a token's hopless denomination has or would get; nothing where a new key meets a full register.
     fn room_for(&self, token: &TokenId, denomination: &Denomination) -> Option<usize>
-        requires { token.now.chain < 8 }
-        ensures number { result ≡ issue_number (view L.Ledger.meaning F.Book.meaning S.Book.meaning self.now) (token_view token.now) (denom_view denomination.now) }
+        ensures number { result ≡ issue_number (view L.meaning F.meaning S.meaning self.now) (token_view token.now) (denom_view denomination.now) }
         ensures small { IfSome result (λ n. n < 32) }
     {
-        let number = self.tables.number_for(token.chain, denomination);
-        match self.tables.tokens.number_of(token) {
-            Some(_) => number,
-            None => {
-                if self.tables.tokens.len() >= TOKENS {
-                    return None;
-                }
-                number
-            }
-        }
+        let number = self.tables.number_for(token.chain, denomination)?;
+        let known = self.tables.tokens.number_of(token).is_some();
+        (known | (self.tables.tokens.len() < TOKENS)).then_some(number)
     }
 
     /// Registers a symbol's token and denomination on a chain, if they are new, and credits a user.
@@ -103,8 +97,8 @@ impl<L: Ledger, F: Book, S: Book> World<L, F, S> {
         symbol: Symbol,
         amount: u64,
     ) -> Result<(), WorldFault>
-        ensures answer { said (λ _. done) world_number result ≡ (step (view L.Ledger.meaning F.Book.meaning S.Book.meaning self.old) (issue chain user (symbol_of symbol) amount)).1 }
-        ensures after { view L.Ledger.meaning F.Book.meaning S.Book.meaning self.new ≡ (step (view L.Ledger.meaning F.Book.meaning S.Book.meaning self.old) (issue chain user (symbol_of symbol) amount)).0 }
+        ensures answer { said (λ _. done) world_number result ≡ (step (view L.meaning F.meaning S.meaning self.old) (issue chain user (symbol_of symbol) amount)).1 }
+        ensures after { view L.meaning F.meaning S.meaning self.new ≡ (step (view L.meaning F.meaning S.meaning self.old) (issue chain user (symbol_of symbol) amount)).0 }
     {
         if !self.serves(chain) {
             return Err(WorldFault::NoSuchChain);
@@ -117,9 +111,9 @@ impl<L: Ledger, F: Book, S: Book> World<L, F, S> {
         }
         let denomination = Denomination::hopless(symbol);
         let token = TokenId { chain, symbol };
-        let Some(number) = self.room_for(&token, &denomination) else {
-            return Err(WorldFault::RegisterFull);
-        };
+        let number = self
+            .room_for(&token, &denomination)
+            .ok_or(WorldFault::RegisterFull)?;
         self.ledger.credit(chain, user, number, amount)?;
         self.enrol(chain, &denomination);
         self.enrol_token(&token);
@@ -128,8 +122,8 @@ impl<L: Ledger, F: Book, S: Book> World<L, F, S> {
 
     /// Bars a user.
     pub fn bar(&mut self, chain: usize, user: usize) -> Result<(), WorldFault>
-        ensures answer { said (λ _. done) world_number result ≡ (step (view L.Ledger.meaning F.Book.meaning S.Book.meaning self.old) (bar chain user)).1 }
-        ensures after { view L.Ledger.meaning F.Book.meaning S.Book.meaning self.new ≡ (step (view L.Ledger.meaning F.Book.meaning S.Book.meaning self.old) (bar chain user)).0 }
+        ensures answer { said (λ _. done) world_number result ≡ (step (view L.meaning F.meaning S.meaning self.old) (bar chain user)).1 }
+        ensures after { view L.meaning F.meaning S.meaning self.new ≡ (step (view L.meaning F.meaning S.meaning self.old) (bar chain user)).0 }
     {
         if !self.serves(chain) {
             return Err(WorldFault::NoSuchChain);
@@ -139,8 +133,8 @@ impl<L: Ledger, F: Book, S: Book> World<L, F, S> {
 
     /// Lifts a user's bar.
     pub fn unbar(&mut self, chain: usize, user: usize) -> Result<(), WorldFault>
-        ensures answer { said (λ _. done) world_number result ≡ (step (view L.Ledger.meaning F.Book.meaning S.Book.meaning self.old) (unbar chain user)).1 }
-        ensures after { view L.Ledger.meaning F.Book.meaning S.Book.meaning self.new ≡ (step (view L.Ledger.meaning F.Book.meaning S.Book.meaning self.old) (unbar chain user)).0 }
+        ensures answer { said (λ _. done) world_number result ≡ (step (view L.meaning F.meaning S.meaning self.old) (unbar chain user)).1 }
+        ensures after { view L.meaning F.meaning S.meaning self.new ≡ (step (view L.meaning F.meaning S.meaning self.old) (unbar chain user)).0 }
     {
         if !self.serves(chain) {
             return Err(WorldFault::NoSuchChain);

@@ -19,8 +19,8 @@ impl<L: Ledger, F: Book, S: Book> World<L, F, S> {
         chain: usize,
         denomination: &Denomination,
     ) -> Result<(usize, Symbol), WorldFault>
-        ensures answer { said (λ p. home_is (record { chain = p.0; symbol = symbol_of p.1 })) world_number result ≡ (step (view L.Ledger.meaning F.Book.meaning S.Book.meaning self.now) (asks-home chain (denom_view denomination.now))).1 }
-        ensures after { view L.Ledger.meaning F.Book.meaning S.Book.meaning self.now ≡ (step (view L.Ledger.meaning F.Book.meaning S.Book.meaning self.now) (asks-home chain (denom_view denomination.now))).0 }
+        ensures answer { said (λ p. home_is (record { chain = p.0; symbol = symbol_of p.1 })) world_number result ≡ (step (view L.meaning F.meaning S.meaning self.now) (asks-home chain (denom_view denomination.now))).1 }
+        ensures after { view L.meaning F.meaning S.meaning self.now ≡ (step (view L.meaning F.meaning S.meaning self.now) (asks-home chain (denom_view denomination.now))).0 }
     {
         if !self.serves(chain) {
             return Err(WorldFault::NoSuchChain);

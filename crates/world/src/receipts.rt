@@ -12,30 +12,18 @@ use books::Book;
 use ledger::Ledger;
 use protocol::{BookFault, LinkKind, Mark};
 
-// Whether each lower sequence of a lane has a mark.
-fn lower_marked<B: Book>(book: &B, lane: usize, sequence: usize) -> bool
-    ensures { result ≡ lower_marked (B.Book.meaning book.now) lane sequence }
-{
-    for lower in 1..sequence {
-        if book.look(lane, lower).is_none() {
-            return false;
-        }
-    }
-    true
-}
-
 // Whether a strict book waits for a lower sequence of a lane.
 fn awaits_lower<B: Book>(book: &B, lane: usize, sequence: usize) -> bool
-    ensures { result ≡ ((B.Book.meaning book.now).strict && not (lower_marked (B.Book.meaning book.now) lane sequence)) }
+    ensures { result ≡ ((B.meaning book.now).strict && not (lower_marked (B.meaning book.now) lane sequence)) }
 {
-    book.is_strict() && !lower_marked(book, lane, sequence)
+    book.is_strict() && !book.lower_marked(lane, sequence)
 }
 
 // The books by the kind of link that each serves.
 impl<L: Ledger, F: Book, S: Book> World<L, F, S> {
     /// The mark of a sequence of a lane, in the book for links of a kind.
     pub fn look(&self, kind: LinkKind, lane: usize, sequence: usize) -> Option<Mark>
-        ensures { option_map mark_number result ≡ ((view L.Ledger.meaning F.Book.meaning S.Book.meaning self.now).books (is_strict kind)).mark lane sequence }
+        ensures { option_map mark_number result ≡ ((view L.meaning F.meaning S.meaning self.now).books (is_strict kind)).mark lane sequence }
     {
         match kind {
             LinkKind::Free => self.free.look(lane, sequence),
@@ -44,7 +32,7 @@ impl<L: Ledger, F: Book, S: Book> World<L, F, S> {
     }
 
     pub(crate) fn keeps_order(&self, kind: LinkKind) -> bool
-        ensures { result ≡ ((view L.Ledger.meaning F.Book.meaning S.Book.meaning self.now).books (is_strict kind)).strict }
+        ensures { result ≡ ((view L.meaning F.meaning S.meaning self.now).books (is_strict kind)).strict }
     {
         match kind {
             LinkKind::Free => self.free.is_strict(),
@@ -53,7 +41,7 @@ impl<L: Ledger, F: Book, S: Book> World<L, F, S> {
     }
 
     pub(crate) fn awaits_lower(&self, kind: LinkKind, lane: usize, sequence: usize) -> bool
-        ensures { result ≡ (((view L.Ledger.meaning F.Book.meaning S.Book.meaning self.now).books (is_strict kind)).strict && not (lower_marked ((view L.Ledger.meaning F.Book.meaning S.Book.meaning self.now).books (is_strict kind)) lane sequence)) }
+        ensures { result ≡ (((view L.meaning F.meaning S.meaning self.now).books (is_strict kind)).strict && not (lower_marked ((view L.meaning F.meaning S.meaning self.now).books (is_strict kind)) lane sequence)) }
     {
         match kind {
             LinkKind::Free => awaits_lower(&self.free, lane, sequence),
@@ -68,8 +56,8 @@ impl<L: Ledger, F: Book, S: Book> World<L, F, S> {
         sequence: usize,
         mark: Mark,
     ) -> Result<(), BookFault>
-        ensures answer { told_by book_number result ≡ answer_unless (take_refusals ((view L.Ledger.meaning F.Book.meaning S.Book.meaning self.old).books (is_strict kind)) lane sequence) tt }
-        ensures after { view L.Ledger.meaning F.Book.meaning S.Book.meaning self.new ≡ left_by result (view L.Ledger.meaning F.Book.meaning S.Book.meaning self.old) (with_books (view L.Ledger.meaning F.Book.meaning S.Book.meaning self.old) (λ k. (if same_kind k (is_strict kind) then taken ((view L.Ledger.meaning F.Book.meaning S.Book.meaning self.old).books k) lane sequence (mark_number mark) else (view L.Ledger.meaning F.Book.meaning S.Book.meaning self.old).books k))) }
+        ensures answer { told_by book_number result ≡ answer_unless (take_refusals ((view L.meaning F.meaning S.meaning self.old).books (is_strict kind)) lane sequence) tt }
+        ensures after { view L.meaning F.meaning S.meaning self.new ≡ left_by result (view L.meaning F.meaning S.meaning self.old) (with_books (view L.meaning F.meaning S.meaning self.old) (λ k. (if same_kind k (is_strict kind) then taken ((view L.meaning F.meaning S.meaning self.old).books k) lane sequence (mark_number mark) else (view L.meaning F.meaning S.meaning self.old).books k))) }
     {
         match kind {
             LinkKind::Free => self.free.take(lane, sequence, mark),

@@ -15,16 +15,17 @@ impl<L: Ledger, F: Book, S: Book> World<L, F, S> {
     pub(crate) fn enrol(&mut self, chain: usize, denomination: &Denomination)
         requires chain { chain < 8 }
         requires room { is_some (number_for (denom_view denomination.now) (denoms_of self.old.tables.denominations chain)) ≡ true }
-        ensures { view L.Ledger.meaning F.Book.meaning S.Book.meaning self.new ≡ enrolled (view L.Ledger.meaning F.Book.meaning S.Book.meaning self.old) chain (denom_view denomination.now) }
+        ensures { view L.meaning F.meaning S.meaning self.new ≡ enrolled (view L.meaning F.meaning S.meaning self.old) chain (denom_view denomination.now) }
     {
-        let row = &mut self.tables.denominations[chain];
+        let mut row = self.tables.denominations[chain];
         let _ = row.enter(*denomination);
+        self.tables.denominations[chain] = row;
     }
 
     // Registers a token, if it is new.
     pub(crate) fn enrol_token(&mut self, token: &TokenId)
-        requires room { token_known (view L.Ledger.meaning F.Book.meaning S.Book.meaning self.old) (token_view token.now) ≡ false → length (tokens_in self.old.tables.tokens) < 64 }
-        ensures { view L.Ledger.meaning F.Book.meaning S.Book.meaning self.new ≡ token_enrolled (view L.Ledger.meaning F.Book.meaning S.Book.meaning self.old) (token_view token.now) }
+        requires room { token_known (view L.meaning F.meaning S.meaning self.old) (token_view token.now) ≡ false → length (tokens_in self.old.tables.tokens) < 64 }
+        ensures { view L.meaning F.meaning S.meaning self.new ≡ token_enrolled (view L.meaning F.meaning S.meaning self.old) (token_view token.now) }
     {
         let _ = self.tables.tokens.enter(*token);
     }

@@ -8,7 +8,7 @@ ghost use Rattle.world.specs.View.{view, two_books};
 
 use books::Book;
 use ledger::Ledger;
-use protocol::{CHAINS, CHANNELS, LINKS, LinkKind, WorldFault};
+use protocol::{CHAINS, LINKS, LinkKind, WorldFault};
 use tables::{End, Link, Tables, lowest_unused};
 
 /// A world over a ledger and two books, one for free links and one for strict ones.
@@ -23,7 +23,7 @@ pub struct World<L: Ledger, F: Book, S: Book> {
 impl<L: Ledger, F: Book, S: Book> World<L, F, S> {
     /// A world over a ledger and two books, which it clears: there is no link, packet or key, and heights are 0.
     pub fn new(mut ledger: L, mut free: F, mut strict: S) -> World<L, F, S>
-        ensures { view L.Ledger.meaning F.Book.meaning S.Book.meaning result ≡ made (L.Ledger.meaning ledger) (two_books (F.Book.meaning free) (S.Book.meaning strict)) }
+        ensures { view L.meaning F.meaning S.meaning result ≡ made (L.meaning ledger) (two_books (F.meaning free) (S.meaning strict)) }
     {
         ledger.clear();
         free.clear();
@@ -38,7 +38,7 @@ impl<L: Ledger, F: Book, S: Book> World<L, F, S> {
 
     // Whether the ledger serves a chain and a world has it.
     pub(crate) fn serves(&self, chain: usize) -> bool
-        ensures { result ≡ served (view L.Ledger.meaning F.Book.meaning S.Book.meaning self.now) chain }
+        ensures { result ≡ served (view L.meaning F.meaning S.meaning self.now) chain }
     {
         chain < self.ledger.chains() && chain < CHAINS
     }
@@ -46,8 +46,8 @@ impl<L: Ledger, F: Book, S: Book> World<L, F, S> {
     /// Opens a link between two chains, end 0 at the first and end 1 at the second, by the lowest unused channel of each, and
     /// answers its number.
     pub fn open(&mut self, first: usize, second: usize, kind: LinkKind) -> Result<usize, WorldFault>
-        ensures answer { said says world_number result ≡ (step (view L.Ledger.meaning F.Book.meaning S.Book.meaning self.old) (open_link first second (is_strict kind))).1 }
-        ensures after { view L.Ledger.meaning F.Book.meaning S.Book.meaning self.new ≡ (step (view L.Ledger.meaning F.Book.meaning S.Book.meaning self.old) (open_link first second (is_strict kind))).0 }
+        ensures answer { said says world_number result ≡ (step (view L.meaning F.meaning S.meaning self.old) (open_link first second (is_strict kind))).1 }
+        ensures after { view L.meaning F.meaning S.meaning self.new ≡ (step (view L.meaning F.meaning S.meaning self.old) (open_link first second (is_strict kind))).0 }
     {
         if !self.serves(first) || !self.serves(second) {
             return Err(WorldFault::NoSuchChain);
@@ -59,11 +59,12 @@ impl<L: Ledger, F: Book, S: Book> World<L, F, S> {
         if number >= LINKS {
             return Err(WorldFault::LinksExhausted);
         }
-        let near = lowest_unused(self.tables.links.as_slice(), first);
-        let far = lowest_unused(self.tables.links.as_slice(), second);
-        if near >= CHANNELS || far >= CHANNELS {
-            return Err(WorldFault::ChannelsExhausted);
-        }
+        let near = lowest_unused(self.tables.links.as_slice(), first).ok_or(
+            WorldFault::ChannelsExhausted,
+        )?;
+        let far = lowest_unused(self.tables.links.as_slice(), second).ok_or(
+            WorldFault::ChannelsExhausted,
+        )?;
         self.tables.links.push(Link {
             first: End {
                 chain: first,
@@ -81,8 +82,8 @@ impl<L: Ledger, F: Book, S: Book> World<L, F, S> {
 
     /// Raises a chain's height.
     pub fn tick(&mut self, chain: usize, by: u64) -> Result<(), WorldFault>
-        ensures answer { said (λ _. done) world_number result ≡ (step (view L.Ledger.meaning F.Book.meaning S.Book.meaning self.old) (tick chain by)).1 }
-        ensures after { view L.Ledger.meaning F.Book.meaning S.Book.meaning self.new ≡ (step (view L.Ledger.meaning F.Book.meaning S.Book.meaning self.old) (tick chain by)).0 }
+        ensures answer { said (λ _. done) world_number result ≡ (step (view L.meaning F.meaning S.meaning self.old) (tick chain by)).1 }
+        ensures after { view L.meaning F.meaning S.meaning self.new ≡ (step (view L.meaning F.meaning S.meaning self.old) (tick chain by)).0 }
     {
         if !self.serves(chain) {
             return Err(WorldFault::NoSuchChain);

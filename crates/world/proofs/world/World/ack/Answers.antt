@@ -12,12 +12,12 @@ use Rattle.world.proofs.Settlements.{refund_same, refunded_same, not_back, verdi
 use Rattle.world.proofs.Verdicts.{accepted, stopped}
 use Rattle.world.proofs.world.World.ack.Goals as goal
 
-pub returns-in_err-route : goal.returns-in_err-route
-returns-in_err-route g c =
+pub returns-in_err-sent : goal.returns-in_err-sent
+returns-in_err-sent g c =
     let w = view g.L.Ledger.meaning g.F.Book.meaning g.S.Book.meaning c.args.self.now in
-    let n = world_number c.in_err-route.field-0.0 in
+    let n = world_number c.in_err-sent.field-0.0 in
     let r = err_from_is_err_and c.from_residual.result c.from_residual.ensures.1 in
-    let stop = stopped w (ack c.args.link c.args.direction c.args.sequence) n c.in_err-route.ensures in
+    let stop = stopped w (ack c.args.id.link c.args.id.direction c.args.id.sequence) n c.in_err-sent.ensures in
     record {
       answer = ap (said (λ (x : Unit {0}). done) world_number) r.1 ∙ ap (λ (f : WorldFault). no (world_number f)) r.2 ∙ stop.0;
       after = stop.1;
@@ -26,15 +26,15 @@ returns-in_err-route g c =
 pub returns-in-EndsWithRefund : goal.returns-in-EndsWithRefund
 returns-in-EndsWithRefund g c =
     let w = view g.L.Ledger.meaning g.F.Book.meaning g.S.Book.meaning c.args.self.now in
-    let l = c.args.link in
-    let d = c.args.direction in
-    let s = c.args.sequence in
-    let q = c.in_ok-route.route in
-    let n = c.in_ok-route.place in
-    let p = c.in_ok-route.packet in
-    let a = c.in_ok-route.ensures in
+    let l = c.args.id.link in
+    let d = c.args.id.direction in
+    let s = c.args.id.sequence in
+    let q = c.in_ok-sent.sent.route in
+    let n = c.in_ok-sent.sent.place in
+    let p = c.in_ok-sent.sent.packet in
+    let a = c.in_ok-sent.ensures in
     let pk = packet_at w (lane l d) s in
-    let back : goes_back c.in_ok-route.effect ≡ true = ap goes_back c.in-EndsWithRefund.is in
+    let back : goes_back c.in_ok-sent.effect ≡ true = ap goes_back c.in-EndsWithRefund.is in
     let left = a.left ∙ (λ i. first (34 when (back i && sym (refund_same w l d s q n p a.on) i) ∷ [])) in
     let kept = a.good ∙ ap not back in
     let v =
@@ -47,15 +47,15 @@ returns-in-EndsWithRefund g c =
 pub returns : goal.returns
 returns g c =
     let w = view g.L.Ledger.meaning g.F.Book.meaning g.S.Book.meaning c.args.self.now in
-    let l = c.args.link in
-    let d = c.args.direction in
-    let s = c.args.sequence in
-    let q = c.in_ok-route.route in
-    let n = c.in_ok-route.place in
-    let p = c.in_ok-route.packet in
-    let a = c.in_ok-route.ensures in
+    let l = c.args.id.link in
+    let d = c.args.id.direction in
+    let s = c.args.id.sequence in
+    let q = c.in_ok-sent.sent.route in
+    let n = c.in_ok-sent.sent.place in
+    let p = c.in_ok-sent.sent.packet in
+    let a = c.in_ok-sent.ensures in
     let pk = packet_at w (lane l d) s in
-    let stays : goes_back c.in_ok-route.effect ≡ false = not_back c.in_ok-route.effect c.in_default.not-EndsWithRefund in
+    let stays : goes_back c.in_ok-sent.effect ≡ false = not_back c.in_ok-sent.effect c.in_default.not-EndsWithRefund in
     let by : first (refusals w (ack l d s)) ≡ None = a.left ∙ (λ i. first (34 when (stays i && refund_refused w pk) ∷ [])) in
     let kept = a.good ∙ ap not stays in
     let ok = accepted w (ack l d s) by in

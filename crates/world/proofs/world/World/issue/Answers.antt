@@ -13,7 +13,7 @@ use Rattle.protocol.specs.World.{World, number, registered}
 use Rattle.protocol.specs.Calls.{issue, done, no as refused, said, refusals, token_at, token_known, with_ledger, enrolled, token_enrolled}
 use Rattle.tables.specs.View.{tokens_in}
 use Rattle.world.specs.View.{view}
-use Rattle.world.proofs.Verdicts.{stopped, accepted, refused_from_err}
+use Rattle.world.proofs.Verdicts.{stopped, accepted, refused_from_err, there_was, there_was_none, handed_on}
 use Rattle.world.proofs.Stops.{issue_no_chain, issue_no_user, issue_nothing, issue_full}
 use Rattle.world.proofs.Issuing.{there_if, absent_if, issue_left}
 use Rattle.world.proofs.world.World.issue.Goals as goal
@@ -49,13 +49,15 @@ returns-then-amount-eq0 g c =
     let no = stopped w (issue c.args.chain c.args.user s c.args.amount) 13 (issue_nothing w c.args.chain c.args.user s c.args.amount c.args.symbol.spelt (sym c.if-not-serves.ensures) (lt-leb 16 c.args.user c.if-user-ge-USERS.false) (eq-eqb c.args.amount 0 c.if-amount-eq0.true)) in
     record { answer = no.0; after = no.1 }
 
-pub returns-in_default : goal.returns-in_default
-returns-in_default g c =
+pub returns-in_err-number : goal.returns-in_err-number
+returns-in_err-number g c =
     let w = view g.L.Ledger.meaning g.F.Book.meaning g.S.Book.meaning c.args.self.now in
     let s = symbol_of c.args.symbol in
     let plain : denom_view c.hopless-denomination.result ≡ hopless s = c.hopless-denomination.ensures in
-    let full-one = ap (full w c.args.chain s) (sym plain) ∙ absent_if _ _ c.in_default.ensures.number in
-    let no = stopped w (issue c.args.chain c.args.user s c.args.amount) 23 (issue_full w c.args.chain c.args.user s c.args.amount c.args.symbol.spelt (sym c.if-not-serves.ensures) (lt-leb 16 c.args.user c.if-user-ge-USERS.false) (ne_eqb c.args.amount 0 c.if-amount-eq0.false) full-one) in
+    let none = there_was_none _ _ _ c.in_err-number.ensures.value in
+    let full-one = ap (full w c.args.chain s) (sym plain) ∙ absent_if _ _ (sym none.0 ∙ c.room_for.ensures.number) in
+    let by = (issue_full w c.args.chain c.args.user s c.args.amount c.args.symbol.spelt (sym c.if-not-serves.ensures) (lt-leb 16 c.args.user c.if-user-ge-USERS.false) (ne_eqb c.args.amount 0 c.if-amount-eq0.false) full-one) in
+    let no = handed_on w (issue c.args.chain c.args.user s c.args.amount) (λ (x : Unit {0}). done) c.from_residual.result _ 23 (err_from_is_err_and c.from_residual.result c.from_residual.ensures.1) (ap world_number none.1) by in
     record { answer = no.0; after = no.1 }
 
 pub returns-in_err-credit : goal.returns-in_err-credit
@@ -65,14 +67,15 @@ returns-in_err-credit g c =
     let s = symbol_of c.args.symbol in
     let k = issue chain c.args.user s c.args.amount in
     let plain : denom_view c.hopless-denomination.result ≡ hopless s = c.hopless-denomination.ensures in
-    let told = there_if _ _ _ c.in-Some.ensures.number in
-    let numbered : number w chain (hopless s) ≡ c.in-Some.number = sym (told.1 ∙ ap (number w chain) plain) in
+    let there = there_was _ _ _ c.in_ok-number.ensures.value in
+    let told = there_if _ _ _ (sym there ∙ c.room_for.ensures.number) in
+    let numbered : number w chain (hopless s) ≡ c.in_ok-number.number = sym (told.1 ∙ ap (number w chain) plain) in
     let room : full w chain s (hopless s) ≡ false = ap (full w chain s) (sym plain) ∙ told.0 in
     let credit = c.in_err-credit.ensures in
     let n = ledger_number c.in_err-credit.field-0.0 in
-    let p = err_from_is_err_and c.from_residual.result c.from_residual.ensures.1 in
+    let p = err_from_is_err_and c.from_residual-in_err-credit.result c.from_residual-in_err-credit.ensures.1 in
     let by : first (refusals w k) ≡ Some n =
-    issue_left w chain c.args.user s c.args.amount c.in-Some.number c.args.symbol.spelt (sym c.if-not-serves.ensures) c.if-user-ge-USERS.false (ne_eqb c.args.amount 0 c.if-amount-eq0.false) room numbered c.in-Some.ensures.small
+    issue_left w chain c.args.user s c.args.amount c.in_ok-number.number c.args.symbol.spelt (sym c.if-not-serves.ensures) c.if-user-ge-USERS.false (ne_eqb c.args.amount 0 c.if-amount-eq0.false) room numbered (rw there at c.room_for.ensures.small)
     ∙ refused_from_err _ tt n (sym credit.answer)
     in
     let no = stopped w k n by in
@@ -83,7 +86,8 @@ returns-in_err-credit g c =
 
 pub enrol_token-requires : goal.enrol_token-requires
 enrol_token-requires g c =
-    let told = there_if _ _ _ c.in-Some.ensures.number in
+    let there = there_was _ _ _ c.in_ok-number.ensures.value in
+    let told = there_if _ _ _ (sym there ∙ c.room_for.ensures.number) in
     let tokens : List Token = tokens_in c.args.self.now.tables.tokens in
     let same : tokens_in c.enrol.new.self.tables.tokens ≡ tokens = ap (λ (x : World). x.tokens) c.enrol.ensures in
     let t = token_at c.args.chain (symbol_of c.args.symbol) in
@@ -102,12 +106,13 @@ returns g c =
     let n = c.args.amount in
     let k = issue chain user s n in
     let plain : denom_view c.hopless-denomination.result ≡ hopless s = c.hopless-denomination.ensures in
-    let told = there_if _ _ _ c.in-Some.ensures.number in
+    let there = there_was _ _ _ c.in_ok-number.ensures.value in
+    let told = there_if _ _ _ (sym there ∙ c.room_for.ensures.number) in
     let credit = c.in_ok-credit.ensures in
-    let numbered : c.in-Some.number ≡ number w chain (hopless s) = told.1 ∙ ap (number w chain) plain in
+    let numbered : c.in_ok-number.number ≡ number w chain (hopless s) = told.1 ∙ ap (number w chain) plain in
     let room : full w chain s (hopless s) ≡ false = ap (full w chain s) (sym plain) ∙ told.0 in
     let by : first (refusals w k) ≡ None =
-    issue_left w chain user s n c.in-Some.number c.args.symbol.spelt (sym c.if-not-serves.ensures) c.if-user-ge-USERS.false (ne_eqb n 0 c.if-amount-eq0.false) room (sym numbered) c.in-Some.ensures.small
+    issue_left w chain user s n c.in_ok-number.number c.args.symbol.spelt (sym c.if-not-serves.ensures) c.if-user-ge-USERS.false (ne_eqb n 0 c.if-amount-eq0.false) room (sym numbered) (rw there at c.room_for.ensures.small)
     ∙ free_from_ok _ tt tt (sym credit.answer)
     in
     let step_is = accepted w k by in

@@ -20,7 +20,7 @@ returns-in_err-route g c =
     let w = view g.L.Ledger.meaning g.F.Book.meaning g.S.Book.meaning c.args.self.now in
     let n = world_number c.in_err-route.field-0.0 in
     let r = err_from_is_err_and c.from_residual.result c.from_residual.ensures.1 in
-    let stop = stopped w (receive c.args.link c.args.direction c.args.sequence) n c.in_err-route.ensures in
+    let stop = stopped w (receive c.args.id.link c.args.id.direction c.args.id.sequence) n c.in_err-route.ensures in
     record {
       answer = ap (said (λ (m : Mark). says (mark_number m)) world_number) r.1 ∙ ap (λ (f : WorldFault). no (world_number f)) r.2 ∙ stop.0;
       after = stop.1;
@@ -34,8 +34,8 @@ returns-in_err-take g c =
     let p = c.in_ok-route.packet in
     let r = c.in_ok-route.ensures in
     let m = mark_number c.deliver-mark.result in
-    let mark = mark_is w c.args.link c.args.direction c.args.sequence q p r m c.deliver-mark.ensures.answer in
-    let free = taken_free w c.args.link c.args.direction c.args.sequence q p r v m mark c.deliver-mark.ensures.after in
+    let mark = mark_is w c.args.id.link c.args.id.direction c.args.id.sequence q p r m c.deliver-mark.ensures.answer in
+    let free = taken_free w c.args.id.link c.args.id.direction c.args.id.sequence q p r v m mark c.deliver-mark.ensures.after in
     absurd (never _ _ free (refused_from_err _ tt _ (sym c.in_err-take.ensures.answer)))
 
 pub returns : goal.returns
@@ -46,12 +46,12 @@ returns g c =
     let p = c.in_ok-route.packet in
     let r = c.in_ok-route.ensures in
     let m = mark_number c.deliver-mark.result in
-    let mark = mark_is w c.args.link c.args.direction c.args.sequence q p r m c.deliver-mark.ensures.answer in
-    let s = accepted w (receive c.args.link c.args.direction c.args.sequence) r.clear in
+    let mark = mark_is w c.args.id.link c.args.id.direction c.args.id.sequence q p r m c.deliver-mark.ensures.answer in
+    let s = accepted w (receive c.args.id.link c.args.id.direction c.args.id.sequence) r.clear in
     record {
       answer = ap says mark ∙ sym (ap (λ x. x.1) s);
       after =
           c.in_ok-take.ensures.after
-          ∙ written_is w c.args.link c.args.direction c.args.sequence q p r v m mark c.deliver-mark.ensures.after
+          ∙ written_is w c.args.id.link c.args.id.direction c.args.id.sequence q p r v m mark c.deliver-mark.ensures.after
           ∙ sym (ap (λ x. x.0) s);
     }

@@ -10,5 +10,5 @@ returns-in-Ok g c =
     let v = view g.L.Ledger.meaning g.F.Book.meaning g.S.Book.meaning c.pay_back.new.self in
     record {
       answer = ap (λ (b : Bool). unless_refused {X = Unit {0}} (first (34 when b ∷ [])) tt) told.answer;
-      after = (λ i. with_packets v (c.end.ensures i)) ∙ ap (λ x. ended x c.args.place) told.after;
+      after = (λ i. with_packets v (c.end.ensures i)) ∙ ap (λ x. ended x c.args.sent.now.place) told.after;
     }

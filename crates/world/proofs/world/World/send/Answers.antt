@@ -1,5 +1,6 @@
-use Rattle.std.proofs.Common.{◌≡◌, ℕ, ◌+◌, ◌<◌, true, eqb, List, length, Some, None, Result, sym, ap, ◌∙◌, arith, rules}
+use Rattle.std.proofs.Common.{◌≡◌, ℕ, ◌+◌, ◌<◌, true, eqb, List, map, length, Some, None, Result, sym, ap, ◌∙◌, arith, rules}
 use Rattle.std.proofs.lemmas.Result.{err_from_is_err_and}
+use Rattle.std.proofs.lemmas.List.{map_push}
 use Rattle.sums.specs.Sums.{count}
 use Rattle.denom.specs.Denomination.{Denom}
 use Rattle.denom.specs.Views.{denom_view}
@@ -10,6 +11,7 @@ use Rattle.protocol.specs.Refusals.{first}
 use Rattle.protocol.specs.World.{World, Packet, lane_out}
 use Rattle.protocol.specs.Calls.{send, says, no, said, refusals, with_bal, with_packets, recorded, sent_off, next_sequence}
 use Rattle.world.specs.View.{view}
+use Rattle.tables.specs.View.{packet_view}
 use Rattle.tables.specs.declared.types.Route.{Route}
 use Rattle.world.specs.Sending.{Sendable, off_refusals, off_balances, taking_refusals}
 use Rattle.tables.proofs.Counts.{count_le}
@@ -54,7 +56,7 @@ returns-in_err-route g c =
     let w = view g.L.Ledger.meaning g.F.Book.meaning g.S.Book.meaning c.args.self.now in
     let n = world_number c.in_err-route.field-0.0 in
     let r = err_from_is_err_and c.from_residual.result c.from_residual.ensures.1 in
-    let stop = stopped w (send c.args.chain c.args.channel c.args.sender c.args.receiver (denom_view c.args.denomination.now) c.args.amount c.args.timeout) n c.in_err-route.ensures in
+    let stop = stopped w (send c.args.transfer.now.chain c.args.transfer.now.channel c.args.transfer.now.sender c.args.transfer.now.receiver (denom_view c.args.transfer.now.denomination) c.args.transfer.now.amount c.args.transfer.now.timeout) n c.in_err-route.ensures in
     record {
       answer = ap (said says world_number) r.1 ∙ ap (λ (f : WorldFault). no (world_number f)) r.2 ∙ stop.0;
       after = stop.1;
@@ -63,14 +65,14 @@ returns-in_err-route g c =
 pub returns-in_err-send_off : goal.returns-in_err-send_off
 returns-in_err-send_off g c =
     let w = view g.L.Ledger.meaning g.F.Book.meaning g.S.Book.meaning c.args.self.now in
-    let e = denom_view c.args.denomination.now in
-    let k = send c.args.chain c.args.channel c.args.sender c.args.receiver e c.args.amount c.args.timeout in
+    let e = denom_view c.args.transfer.now.denomination in
+    let k = send c.args.transfer.now.chain c.args.transfer.now.channel c.args.transfer.now.sender c.args.transfer.now.receiver e c.args.transfer.now.amount c.args.transfer.now.timeout in
     let q = c.in_ok-route.ensures in
     let told = c.in_err-send_off.ensures in
     let p = err_from_is_err_and c.from_residual-in_err-send_off.result c.from_residual-in_err-send_off.ensures.1 in
     let n = ledger_number c.in_err-send_off.field-0.0 in
     let by : first (refusals w k) ≡ Some n =
-    at-ledger w c.args.chain c.args.channel c.args.sender c.args.receiver e c.args.amount c.args.timeout c.in_ok-route.route c.in_ok-route.number q
+    at-ledger w c.args.transfer.now.chain c.args.transfer.now.channel c.args.transfer.now.sender c.args.transfer.now.receiver e c.args.transfer.now.amount c.args.transfer.now.timeout c.in_ok-route.route c.in_ok-route.number q
     ∙ refused_from_err _ tt n (sym told.answer)
     in
     let s = refused_by w k n by in
@@ -85,58 +87,59 @@ returns-in_err-send_off g c =
 pub overflow_add-sequence : goal.overflow_add-sequence
 overflow_add-sequence g c =
     let w = view g.L.Ledger.meaning g.F.Book.meaning g.S.Book.meaning c.args.self.now in
-    let e = denom_view c.args.denomination.now in
+    let e = denom_view c.args.transfer.now.denomination in
     let q = c.in_ok-route.ensures in
     let off = c.in_ok-send_off.ensures.after in
     let low : c.sent_on-sequence.result < 512 =
-    sequence-low w c.args.chain c.args.channel c.args.sender c.args.receiver e c.args.amount c.args.timeout c.in_ok-route.route c.in_ok-route.number q _ _ (ap (λ (v : World). v.packets) off) c.sent_on-sequence.ensures
+    sequence-low w c.args.transfer.now.chain c.args.transfer.now.channel c.args.transfer.now.sender c.args.transfer.now.receiver e c.args.transfer.now.amount c.args.transfer.now.timeout c.in_ok-route.route c.in_ok-route.number q _ _ (ap (λ (v : World). v.packets) off) c.sent_on-sequence.ensures
     in
     search rules
 
 pub invariant_of-push : goal.invariant_of-push
 invariant_of-push g c =
     let w = view g.L.Ledger.meaning g.F.Book.meaning g.S.Book.meaning c.args.self.now in
-    let e = denom_view c.args.denomination.now in
+    let e = denom_view c.args.transfer.now.denomination in
     let q = c.in_ok-route.ensures in
     let off = c.in_ok-send_off.ensures.after in
     let low : c.sent_on-sequence.result < 512 =
-    sequence-low w c.args.chain c.args.channel c.args.sender c.args.receiver e c.args.amount c.args.timeout c.in_ok-route.route c.in_ok-route.number q _ _ (ap (λ (v : World). v.packets) off) c.sent_on-sequence.ensures
+    sequence-low w c.args.transfer.now.chain c.args.transfer.now.channel c.args.transfer.now.sender c.args.transfer.now.receiver e c.args.transfer.now.amount c.args.transfer.now.timeout c.in_ok-route.route c.in_ok-route.number q _ _ (ap (λ (v : World). v.packets) off) c.sent_on-sequence.ensures
     in
     record { first = omega arith; last = omega arith }
 
 pub returns : goal.returns
 returns g c =
     let w = view g.L.Ledger.meaning g.F.Book.meaning g.S.Book.meaning c.args.self.now in
-    let e = denom_view c.args.denomination.now in
-    let k = send c.args.chain c.args.channel c.args.sender c.args.receiver e c.args.amount c.args.timeout in
+    let e = denom_view c.args.transfer.now.denomination in
+    let k = send c.args.transfer.now.chain c.args.transfer.now.channel c.args.transfer.now.sender c.args.transfer.now.receiver e c.args.transfer.now.amount c.args.transfer.now.timeout in
     let q = c.in_ok-route.ensures in
     let left = view g.L.Ledger.meaning g.F.Book.meaning g.S.Book.meaning c.send_off.new.self in
     let told = c.in_ok-send_off.ensures in
-    let off : left ≡ with_bal w (sent_off w c.args.chain c.args.channel c.args.sender e c.args.amount) =
+    let off : left ≡ with_bal w (sent_off w c.args.transfer.now.chain c.args.transfer.now.channel c.args.transfer.now.sender e c.args.transfer.now.amount) =
     told.after
-    ∙ by_number w c.args.chain c.args.channel c.args.sender c.args.receiver e c.args.amount c.args.timeout c.in_ok-route.route c.in_ok-route.number q
+    ∙ by_number w c.args.transfer.now.chain c.args.transfer.now.channel c.args.transfer.now.sender c.args.transfer.now.receiver e c.args.transfer.now.amount c.args.transfer.now.timeout c.in_ok-route.route c.in_ok-route.number q
     in
     let seq =
-    sequence-is w c.args.chain c.args.channel c.args.sender c.args.receiver e c.args.amount c.args.timeout c.in_ok-route.route c.in_ok-route.number q left.packets c.sent_on-sequence.result (ap (λ (v : World). v.packets) off) c.sent_on-sequence.ensures
+    sequence-is w c.args.transfer.now.chain c.args.transfer.now.channel c.args.transfer.now.sender c.args.transfer.now.receiver e c.args.transfer.now.amount c.args.transfer.now.timeout c.in_ok-route.route c.in_ok-route.number q left.packets c.sent_on-sequence.result (ap (λ (v : World). v.packets) off) c.sent_on-sequence.ensures
     in
     let by : first (refusals w k) ≡ None =
-    at-ledger w c.args.chain c.args.channel c.args.sender c.args.receiver e c.args.amount c.args.timeout c.in_ok-route.route c.in_ok-route.number q
+    at-ledger w c.args.transfer.now.chain c.args.transfer.now.channel c.args.transfer.now.sender c.args.transfer.now.receiver e c.args.transfer.now.amount c.args.transfer.now.timeout c.in_ok-route.route c.in_ok-route.number q
     ∙ free_from_ok _ tt tt (sym told.answer)
     in
     let s = accepted w k by in
+    let pushed = ap (map packet_view) c.push.ensures ∙ map_push packet_view _ _ in
     record {
       answer = ap says seq ∙ sym (ap (λ p. p.1) s);
       after =
-          (λ i. with_packets left (c.push.ensures i))
+          (λ i. with_packets left (pushed i))
           ∙ (λ i.
           recorded (off i) (record {
             lane = q.lane_is i;
             sequence = seq i;
-            sender = c.args.sender;
-            receiver = c.args.receiver;
+            sender = c.args.transfer.now.sender;
+            receiver = c.args.transfer.now.receiver;
             denom = e;
-            amount = c.args.amount;
-            timeout = c.args.timeout;
+            amount = c.args.transfer.now.amount;
+            timeout = c.args.transfer.now.timeout;
             standing = true;
           }))
           ∙ sym (ap (λ p. p.0) s);

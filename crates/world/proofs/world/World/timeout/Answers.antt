@@ -11,12 +11,12 @@ use Rattle.world.proofs.Settlements.{refund_same, closed_same, link_listed}
 use Rattle.world.proofs.Verdicts.{refused_by, accepted, refused_from_err, stopped}
 use Rattle.world.proofs.world.World.timeout.Goals as goal
 
-pub returns-in_err-route : goal.returns-in_err-route
-returns-in_err-route g c =
+pub returns-in_err-sent : goal.returns-in_err-sent
+returns-in_err-sent g c =
     let w = view g.L.Ledger.meaning g.F.Book.meaning g.S.Book.meaning c.args.self.now in
-    let n = world_number c.in_err-route.field-0.0 in
+    let n = world_number c.in_err-sent.field-0.0 in
     let r = err_from_is_err_and c.from_residual.result c.from_residual.ensures.1 in
-    let stop = stopped w (timeout c.args.link c.args.direction c.args.sequence) n c.in_err-route.ensures in
+    let stop = stopped w (timeout c.args.id.link c.args.id.direction c.args.id.sequence) n c.in_err-sent.ensures in
     record {
       answer = ap (said (λ (x : Unit {0}). done) world_number) r.1 ∙ ap (λ (f : WorldFault). no (world_number f)) r.2 ∙ stop.0;
       after = stop.1;
@@ -25,13 +25,13 @@ returns-in_err-route g c =
 pub returns-in_err-refund : goal.returns-in_err-refund
 returns-in_err-refund g c =
     let w = view g.L.Ledger.meaning g.F.Book.meaning g.S.Book.meaning c.args.self.now in
-    let l = c.args.link in
-    let d = c.args.direction in
-    let s = c.args.sequence in
-    let q = c.in_ok-route.route in
-    let n = c.in_ok-route.place in
-    let p = c.in_ok-route.packet in
-    let a = c.in_ok-route.ensures in
+    let l = c.args.id.link in
+    let d = c.args.id.direction in
+    let s = c.args.id.sequence in
+    let q = c.in_ok-sent.sent.route in
+    let n = c.in_ok-sent.sent.place in
+    let p = c.in_ok-sent.sent.packet in
+    let a = c.in_ok-sent.ensures in
     let told = c.in_err-refund.ensures in
     let f = c.in_err-refund.field-0.0 in
     let by : first (refusals w (timeout l d s)) ≡ Some (world_number f) =
@@ -52,26 +52,26 @@ returns-in_err-refund g c =
 pub close_if_strict-requires : goal.close_if_strict-requires
 close_if_strict-requires g c =
     let w = view g.L.Ledger.meaning g.F.Book.meaning g.S.Book.meaning c.args.self.now in
-    let l = c.args.link in
-    let d = c.args.direction in
-    let s = c.args.sequence in
-    let q = c.in_ok-route.route in
-    let n = c.in_ok-route.place in
-    let p = c.in_ok-route.packet in
-    let a = c.in_ok-route.ensures in
+    let l = c.args.id.link in
+    let d = c.args.id.direction in
+    let s = c.args.id.sequence in
+    let q = c.in_ok-sent.sent.route in
+    let n = c.in_ok-sent.sent.place in
+    let p = c.in_ok-sent.sent.packet in
+    let a = c.in_ok-sent.ensures in
     let v = view g.L.Ledger.meaning g.F.Book.meaning g.S.Book.meaning c.refund.new.self in
     link_listed w l d s q n p a.on v c.in_ok-refund.ensures.after
 
 pub returns : goal.returns
 returns g c =
     let w = view g.L.Ledger.meaning g.F.Book.meaning g.S.Book.meaning c.args.self.now in
-    let l = c.args.link in
-    let d = c.args.direction in
-    let s = c.args.sequence in
-    let q = c.in_ok-route.route in
-    let n = c.in_ok-route.place in
-    let p = c.in_ok-route.packet in
-    let a = c.in_ok-route.ensures in
+    let l = c.args.id.link in
+    let d = c.args.id.direction in
+    let s = c.args.id.sequence in
+    let q = c.in_ok-sent.sent.route in
+    let n = c.in_ok-sent.sent.place in
+    let p = c.in_ok-sent.sent.packet in
+    let a = c.in_ok-sent.ensures in
     let v = view g.L.Ledger.meaning g.F.Book.meaning g.S.Book.meaning c.refund.new.self in
     let told = c.in_ok-refund.ensures in
     let by : first (refusals w (timeout l d s)) ≡ None =
