@@ -10,12 +10,8 @@ use Rattle.sums.proofs.Below.{sum_same, sum_zero, sum_only, sum_add}
 use Rattle.sums.proofs.Counted.{counted_total, total_same, total_set}
 use Rattle.protocol.specs.House.{most}
 use Rattle.protocol.specs.Ledger.{Balances, supply, put}
-use Rattle.note_bank.specs.Notes.{amount_of, belongs, share, note_in, proper, Proper, FreeFrom, released, note_chains, held, note_balances, Place}
+use Rattle.note_bank.specs.Notes.{amount_of, belongs, share, note_in, proper, Proper, FreeFrom, released, held, note_balances, Place}
 use Rattle.note_bank.specs.declared.place.Note.{Note}
-
--- the one chain is kept on 1,024 places or more
-pub kept_on : (xs : List Place) → note_chains xs ≡ 1 → 1024 ≤ length xs
-kept_on xs e = grind (arith, nat_tests)
 
 -- one place replaced
 pub held_set : (xs : List Place) (i : ℕ) (p : Place) → i < length xs → (a d : ℕ) → held (set xs i p) a d + share a d (get_or xs i None) ≡ held xs a d + share a d p

@@ -1,7 +1,8 @@
 -- What places with notes mean as a ledger: one chain, a balance the sum of its notes, and no bars.
-use Rattle.std.specs.Prelude.{◌≡◌, ℕ, ◌+◌, ◌*◌, ◌<◌, ◌≤◌, Bool, true, false, cond, ◌&&◌, List, length, is_some, Some, None, Option, ◌==◌, nat_le, nat_lt, slice_index_or, refl}
+use Rattle.std.specs.Prelude.{◌≡◌, ℕ, ◌+◌, ◌*◌, ◌<◌, ◌≤◌, Bool, true, false, cond, ◌&&◌, List, length, is_some, Some, None, Option, ◌==◌, nat_le, nat_lt, slice_index_or}
 use Rattle.std.specs.Option.{option_map}
-use Rattle.std.proofs.lemmas.Bool.{le-ltb}
+use Rattle.std.proofs.Common.{arith}
+use Rattle.std.proofs.lemmas.Bool.Decides.{nat_tests}
 use Rattle.sums.specs.Sums.{total, gate}
 use Rattle.sums.specs.declared.Column.{Column}
 use Rattle.protocol.specs.House.{most, accounts, denoms_most}
@@ -76,7 +77,7 @@ held xs a d = total (share a d) xs
 unfoldable pub note_balances : List Place → Balances
 note_balances xs c a d = cond (nat_lt c (note_chains xs) && nat_lt a accounts && nat_lt d denoms_most) (held xs a d) 0
 
--- where supplies are in bounds, that is all that a bank asks of its store: a chain that is not served has no balance
-pub notes_kept : (xs : List Place) → ((c d : ℕ) → supply (note_balances xs) c d ≤ most) → Kept (note_chains xs) (note_balances xs)
+-- where supplies are in bounds, that is all that a bank asks of its store: no chain but chain 0 has a balance
+pub notes_kept : (xs : List Place) → ((c d : ℕ) → supply (note_balances xs) c d ≤ most) → Kept (note_balances xs)
 unfolding note_balances
-notes_kept xs h = record { supplies = h; unserved = λ c a d out. rw (le-ltb c (note_chains xs) out) refl }
+notes_kept xs h = record { supplies = h; elsewhere = λ c a d out. grind (arith, nat_tests) }

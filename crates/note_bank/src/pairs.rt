@@ -4,9 +4,11 @@ ghost use Rattle.protocol.specs.House.{most};
 ghost use Rattle.note_bank.specs.Notes.{Proper, Full, Alike, amount_of, belongs, joint_note, held, released};
 
 use crate::place::{Note, Place};
+use bank::Holding;
 use protocol::{ACCOUNTS, DENOMINATIONS};
 
-// How many pairs of an account and a denomination there are.
+// How many pairs of an account and a denomination there are. The table of those seen has a place for each: a map would need
+// the heap.
 const PAIRS: usize = ACCOUNTS * DENOMINATIONS;
 
 // A free place, if there is one.
@@ -68,19 +70,21 @@ pub(crate) fn join(places: &mut [Place], first: usize, second: usize)
     }
 }
 
-// Whether a note of that owner and denomination lies there.
-fn is_note_of(place: &Place, owner: usize, denomination: usize) -> bool
-    ensures { result ≡ belongs owner denomination place.now }
+// Whether a note of the holding lies there.
+fn is_note_of(place: &Place, holding: Holding) -> bool
+    ensures { result ≡ belongs holding.account holding.denomination place.now }
 {
-    place.is_some_and(|note| note.owner == owner && note.denomination == denomination)
+    place.is_some_and(|note| {
+        note.owner == holding.account && note.denomination == holding.denomination
+    })
 }
 
-// Frees each place with a note of that owner and denomination.
-pub(crate) fn release(places: &mut [Place], owner: usize, denomination: usize)
-    ensures { places.new ≡ map (released owner denomination) places.old }
+// Frees each place with a note of the holding.
+pub(crate) fn release(places: &mut [Place], holding: Holding)
+    ensures { places.new ≡ map (released holding.account holding.denomination) places.old }
 {
     for place in places.iter_mut() {
-        if is_note_of(place, owner, denomination) {
+        if is_note_of(place, holding) {
             *place = None;
         }
     }

@@ -17,8 +17,8 @@ loop-place-preserved c =
     let xs = c.args.places.now in
     let ys = c.loop-place.places in
     let i = c.loop-place.place-index in
-    let a = c.args.owner in
-    let d = c.args.denomination in
+    let a = c.args.holding.account in
+    let d = c.args.holding.denomination in
     let x = get_or ys i None in
     let in_ys : i < length ys = omega arith in
     let on : set ys i (released a d x) ≡ _ = map_over_more (released a d) xs ys i x (omega arith) c.loop-place.invariant (get_or_default ys i None x in_ys) in
@@ -31,7 +31,7 @@ pub returns : goal.returns
 returns c =
     let xs = c.args.places.now in
     let i = c.loop-place.place-index in
-    let f = released c.args.owner c.args.denomination in
+    let f = released c.args.holding.account c.args.holding.denomination in
     let all = take_all i xs c.loop-place-test.false in
     let none = drop_all i xs c.loop-place-test.false in
     c.loop-place.invariant ∙ ap (λ (ys : List Place). map f ys ++ drop i xs) all ∙ ap (λ (ys : List Place). map f xs ++ ys) none ∙ append-nil (map f xs)

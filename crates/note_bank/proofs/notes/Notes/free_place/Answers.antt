@@ -5,7 +5,7 @@ use Rattle.note_bank.proofs.notes.Notes.free_place.Goals as goal
 
 pub fresh_place-requires : goal.fresh_place-requires
 fresh_place-requires c =
-    record { served = c.requires.served; full = subst Full c.front.ensures c.in-None.ensures }
+    record { full = subst Full c.front.ensures c.in-None.ensures }
 
 pub returns-in-Some : goal.returns-in-Some
 returns-in-Some c =
@@ -17,7 +17,6 @@ returns-in-Some c =
     let short : bank.used ≤ length xs = omega (arith, bank.front) in
     let within = in_front bank.used i xs c.front.result.now short c.front.ensures found.0 in
     record {
-      len = refl;
       after = refl;
       within = within;
       free = sym (ap (λ (ys : List Place). get_or ys i None) c.front.ensures ∙ get_or-take bank.used xs i None within) ∙ found.1;

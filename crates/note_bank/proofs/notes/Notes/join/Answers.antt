@@ -1,4 +1,4 @@
-use Rattle.std.proofs.Common.{◌≡◌, ℕ, ◌<◌, ◌≤◌, List, length, get_or, take, sym, refl, ap, ◌∙◌, subst, arith, length-take-le, get_or-take, None}
+use Rattle.std.proofs.Common.{◌≡◌, ℕ, ◌<◌, ◌≤◌, List, length, get_or, take, sym, ap, ◌∙◌, subst, arith, length-take-le, get_or-take, None}
 use Rattle.ledger.proofs.Lent.{lent_whole}
 use Rattle.protocol.specs.House.{most}
 use Rattle.protocol.specs.Ledger.{Balances, supply}
@@ -48,20 +48,36 @@ join-requires c =
       fits = rw lent at fits;
     }
 
-pub invariant_of-self : goal.invariant_of-self
-invariant_of-self c =
+-- What is joined are the places that were lent, whole, and they hold what they held.
+
+pub invariant_of-self-clause-supplies : goal.invariant_of-self-clause-supplies
+invariant_of-self-clause-supplies c =
+    let bank = c.args.self.now in
+    let l = bank.places.ok.0 in
+    let same : length c.join.new.places ≡ length bank.places.items = omega (arith, c.join.auto.places) in
+    let whole = lent_whole bank.places.len c.join.new.places bank.places.items (omega arith) same in
+    let balances = balances_same bank.places.items c.join.new.places same (λ a d. c.join.ensures.same a d ∙ ap (λ (zs : List Place). held zs a d) c.deref_mut.ensures.value) in
+    let Law : Balances → Type 0 = λ b. (c' d : ℕ) → supply b c' d ≤ most in
+    subst Law (sym (ap note_balances whole ∙ balances)) bank.supplies
+
+pub invariant_of-self-clause-notes : goal.invariant_of-self-clause-notes
+invariant_of-self-clause-notes c =
+    let bank = c.args.self.now in
+    let l = bank.places.ok.0 in
+    let whole = lent_whole bank.places.len c.join.new.places bank.places.items (omega arith) (omega (arith, c.join.auto.places)) in
+    subst Proper (sym whole) c.join.ensures.notes
+
+pub invariant_of-self-clause-rest : goal.invariant_of-self-clause-rest
+invariant_of-self-clause-rest c =
     let bank = c.args.self.now in
     let xs = bank.places.items in
-    let ys = c.join.new.places in
     let l = bank.places.ok.0 in
-    let same : length ys ≡ length xs = omega (arith, c.join.auto.places) in
     let short : bank.used ≤ length xs = omega (arith, bank.front) in
     let found = in_front bank.used c.find_pair-first.result.1 xs c.front.result.now short c.front.ensures c.find_pair-first.ensures.within in
-    let whole = lent_whole bank.places.len ys xs (omega arith) same in
-    let balances = balances_same xs ys same (λ a d. c.join.ensures.same a d ∙ ap (λ (zs : List Place). held zs a d) c.deref_mut.ensures.value) in
-    let rest : FreeFrom bank.used ys =
+    let whole = lent_whole bank.places.len c.join.new.places xs (omega arith) (omega (arith, c.join.auto.places)) in
+    let rest : FreeFrom bank.used c.join.new.places =
     λ k h. c.join.ensures.behind k (omega arith) ∙ ap (λ (zs : List Place). get_or zs k None) c.deref_mut.ensures.value ∙ bank.rest k h in
-    let Law : Balances → Type 0 = λ b. (c' d : ℕ) → supply b c' d ≤ most in record { supplies = subst Law (sym (ap note_balances whole ∙ balances)) bank.supplies; notes = subst Proper (sym whole) c.join.ensures.notes; front = bank.front; rest = subst (FreeFrom bank.used) (sym whole) rest }
+    subst (FreeFrom bank.used) (sym whole) rest
 
 pub returns : goal.returns
 returns c =
@@ -74,7 +90,6 @@ returns c =
     let whole = lent_whole bank.places.len ys xs (omega arith) same in
     let j = c.find_pair-first.result.1 in
     record {
-      len = refl;
       after = ap note_balances whole ∙ balances_same xs ys same (λ a d. c.join.ensures.same a d ∙ ap (λ (zs : List Place). held zs a d) c.deref_mut.ensures.value);
       within = in_front bank.used j xs c.front.result.now short c.front.ensures c.find_pair-first.ensures.within;
       free = ap (λ (zs : List Place). get_or zs j None) whole ∙ c.join.ensures.free;
