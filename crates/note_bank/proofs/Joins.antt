@@ -1,12 +1,12 @@
 -- Two notes of one account and denomination joined into one.
-use Rattle.std.proofs.Common.{◌≡◌, ℕ, ◌+◌, ◌<◌, ◌≤◌, true, ◌≢◌, List, length, get_or, set, refl, ◌∙◌, arith, length-set, get_or-set_other, get_or-set_same, None, Some}
+use Rattle.std.proofs.Common.{◌≡◌, ℕ, ◌+◌, ◌<◌, ◌≤◌, true, ◌≢◌, List, length, get_or, set, ◌∙◌, arith, length-set, get_or-set_other, None, Some}
 use Rattle.std.proofs.lemmas.Bool.Decides.{nat_tests}
 use Rattle.protocol.specs.House.{most}
 use Rattle.protocol.specs.Ledger.{supply}
 use Rattle.ledger.proofs.Supplies.{balance_in_supply}
 use Rattle.note_bank.specs.Notes.{amount_of, joint_note, share, proper, Proper, pair_of, Alike, held, note_balances, Place}
 use Rattle.note_bank.specs.declared.place.Note.{Note}
-use Rattle.note_bank.proofs.Shares.{held_set, proper_set, balance_held}
+use Rattle.note_bank.proofs.Shares.{held_set, balance_held}
 
 module _ (xs : List Place) (i j : ℕ) (n k : Note) (order : i < j) (within : j < length xs) (at_i : get_or xs i None ≡ Some n) (at_j : get_or xs j None ≡ Some k) (notes : Proper xs) (alike : pair_of (Some n) ≡ pair_of (Some k)) where
   proper_n : proper (Some n) ≡ true
@@ -32,20 +32,6 @@ module _ (xs : List Place) (i j : ℕ) (n k : Note) (order : i < j) (within : j 
       let first = held_set xs i (Some (joint_note n k)) (omega arith) a d in
       let second = held_set (set xs i (Some (joint_note n k))) j None (rw length-set within) a d in
       omega (arith, rw at_i at first, rw there at second, share_joint a d)
-
-  pub proper_joined : Proper (set (set xs i (Some (joint_note n k))) j None)
-  proper_joined =
-      let p = proper_n in
-      proper_set (set xs i (Some (joint_note n k))) j None (rw length-set within) (proper_set xs i (Some (joint_note n k)) (omega arith) notes (grind (arith, nat_tests))) refl
-
-  pub free_joined : get_or (set (set xs i (Some (joint_note n k))) j None) j None ≡ None
-  free_joined = get_or-set_same (set xs i (Some (joint_note n k))) j None None (rw length-set within)
-
-  pub behind_joined : (l : ℕ) → j < l → get_or (set (set xs i (Some (joint_note n k))) j None) l None ≡ get_or xs l None
-  behind_joined l h =
-      let past-j : l ≢ j = omega arith in
-      let past-i : l ≢ i = omega arith in
-      get_or-set_other (set xs i (Some (joint_note n k))) j l None None past-j ∙ get_or-set_other xs i l (Some (joint_note n k)) None past-i
 
 -- the shares of two places are part of the sum
 two_shares : (xs : List Place) (i j : ℕ) → i < j → j < length xs → (a d : ℕ) → share a d (get_or xs i None) + share a d (get_or xs j None) ≤ held xs a d

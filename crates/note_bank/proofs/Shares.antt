@@ -200,10 +200,6 @@ module _ (w : Column) (n : ℕ) (xs : List Place) (rest : FreeFrom n xs) (long :
       ∙ sum_same w.to _ _ (λ a h. held_front n xs rest a w.denomination ∙ sym (balance_held xs a w.denomination long (omega arith) known))
 
 -- places that are all free
-module _ (xs : List Place) (free : (k : ℕ) → get_or xs k None ≡ None) where
-  pub free_proper : Proper xs
-  free_proper k = rw (free k) refl
-
 pub free_balances : (xs : List Place) → ((k : ℕ) → get_or xs k None ≡ None) → note_balances xs ≡ (λ _ _ _. 0)
 unfolding note_balances
 free_balances xs free = fun_ext λ c. fun_ext λ a. fun_ext λ d. let h = free_held xs free a d in grind (arith, nat_tests)

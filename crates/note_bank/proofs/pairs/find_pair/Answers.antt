@@ -1,4 +1,4 @@
-use Rattle.std.proofs.Common.{◌≡◌, ℕ, ◌+◌, ◌*◌, ◌<◌, true, List, length, is_some, Some, Option, sym, refl, ap, ◌∙◌, subst, arith, length-set}
+use Rattle.std.proofs.Common.{◌≡◌, ℕ, ◌+◌, ◌*◌, ◌<◌, true, List, length, is_some, Some, Option, sym, refl, ap, subst, arith, length-set}
 use Rattle.std.proofs.lemmas.Bool.Decides.{nat_tests}
 use Rattle.sums.specs.Sums.{count}
 use Rattle.note_bank.specs.Notes.{proper, pair_of}
@@ -9,16 +9,10 @@ use Rattle.note_bank.proofs.pairs.find_pair.Goals.{in-Some+in_default-seen, in_d
 pub loop-index-init : goal.loop-index-init
 loop-index-init c = (refl, λ q k e. absurd (none_seen 768 k q e), refl)
 
-pub returns-in-Some-seen : goal.returns-in-Some-seen
-returns-in-Some-seen c =
-    let pair = c.in-Some.note.owner * 32 + c.in-Some.note.denomination in
-    let noted = c.loop-index.invariant.1 pair c.in-Some-seen.earlier c.in-Some-seen.is in
-    let here : pair_of _ ≡ Some pair = ap pair_of c.in-Some.is in
-    record {
-      order = noted.0;
-      within = c.loop-index-test.true;
-      alike = (ap is_some noted.1, noted.1 ∙ sym here);
-    }
+pub returns-in-Some-seen-clause-order : goal.returns-in-Some-seen-clause-order
+returns-in-Some-seen-clause-order c =
+    let noted = c.loop-index.invariant.1 (c.in-Some.note.owner * 32 + c.in-Some.note.denomination) c.in-Some-seen.earlier c.in-Some-seen.is in
+    noted.0
 
 pub loop-index-preserved : goal.loop-index-preserved
 loop-index-preserved c =

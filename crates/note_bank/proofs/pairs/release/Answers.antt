@@ -1,6 +1,6 @@
-use Rattle.std.proofs.Common.{◌≡◌, ℕ, ◌<◌, true, false, List, ◌++◌, map, length, get_or, drop, set, sym, refl, ap, ◌∙◌, append-nil, arith, take_all, None}
+use Rattle.std.proofs.Common.{◌≡◌, ℕ, ◌<◌, true, false, List, length, get_or, set, sym, refl, ◌∙◌, arith, None}
 use Rattle.std.proofs.lemmas.List.Edits.{map_over_more}
-use Rattle.std.proofs.lemmas.List.{get_or_default, drop_all}
+use Rattle.std.proofs.lemmas.List.{get_or_default}
 use Rattle.note_bank.specs.Notes.{belongs, released, Place}
 use Rattle.note_bank.proofs.pairs.release.Goals as goal
 use Rattle.note_bank.proofs.pairs.release.Goals.{then-is_note_of, else-is_note_of}
@@ -26,12 +26,3 @@ loop-place-preserved c =
       | then-is_note_of w ↦ w.places-is ∙ freed a d ys i (sym c.is_note_of.ensures ∙ w.if-is_note_of.true) ∙ on
       | else-is_note_of w ↦ w.places-is ∙ left a d ys i (sym c.is_note_of.ensures ∙ w.if-is_note_of.false) ∙ on
     ]
-
-pub returns : goal.returns
-returns c =
-    let xs = c.args.places.now in
-    let i = c.loop-place.place-index in
-    let f = released c.args.holding.account c.args.holding.denomination in
-    let all = take_all i xs c.loop-place-test.false in
-    let none = drop_all i xs c.loop-place-test.false in
-    c.loop-place.invariant ∙ ap (λ (ys : List Place). map f ys ++ drop i xs) all ∙ ap (λ (ys : List Place). map f xs ++ ys) none ∙ append-nil (map f xs)
