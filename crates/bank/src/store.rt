@@ -10,7 +10,7 @@ ghost use Rattle.bank.specs.OneChain.{Kept, chains_kept};
 use protocol::LedgerFault;
 
 /// Whose balance of what: an account and a denomination that a chain has.
-#[derive(Clone, Copy)]
+#[derive(Clone, Copy, PartialEq, Eq)]
 pub struct Holding {
     pub account: usize,
     pub denomination: usize,

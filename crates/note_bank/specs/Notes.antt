@@ -22,7 +22,7 @@ amount_of (Some n) = n.amount
 -- a note of denomination d that belongs to account a
 abbrev pub belongs : ℕ → ℕ → Place → Bool
 belongs a d None = false
-belongs a d (Some n) = n.owner == a && n.denomination == d
+belongs a d (Some n) = n.holding.account == a && n.holding.denomination == d
 
 -- what a place adds to the balance of account a and denomination d
 abbrev pub share : ℕ → ℕ → Place → ℕ
@@ -30,16 +30,8 @@ share a d p = gate (belongs a d p) (amount_of p)
 
 -- a note of a column's denomination that belongs to one of its accounts
 abbrev pub note_in : Column → Note → ℕ → Bool
-note_in w n i = (n.denomination == w.denomination) && (nat_le w.from n.owner && nat_lt n.owner w.to)
-
--- a note is of an account and a denomination that there are, and its amount is at least 1
-abbrev pub proper : Place → Bool
-proper None = true
-proper (Some n) = nat_lt n.owner accounts && (nat_lt n.denomination denoms_most && nat_lt 0 n.amount)
-
--- all notes are
-abbrev pub Proper : List Place → Type 0
-Proper xs = (k : ℕ) → proper (slice_index_or xs k None) ≡ true
+note_in w n i =
+    (n.holding.denomination == w.denomination) && (nat_le w.from n.holding.account && nat_lt n.holding.account w.to)
 
 -- every place from place n on is free
 abbrev pub FreeFrom : ℕ → List Place → Type 0
@@ -47,7 +39,7 @@ FreeFrom n xs = (k : ℕ) → n ≤ k → slice_index_or xs k None ≡ None
 
 -- account and denomination of a note as one number
 abbrev pub pair_of : Place → Option ℕ
-pair_of p = option_map (λ (n : Note). n.owner * 32 + n.denomination) p
+pair_of p = option_map (λ (n : Note). n.holding.account * 32 + n.holding.denomination) p
 
 -- every place holds a note
 abbrev pub Full : List Place → Type 0
@@ -56,10 +48,6 @@ Full xs = (k : ℕ) → k < length xs → is_some (slice_index_or xs k None) ≡
 -- two notes of one account and denomination
 abbrev pub Alike : Place → Place → Type 0
 Alike p q = (is_some (pair_of p) ≡ true) × (pair_of p ≡ pair_of q)
-
--- two such notes as one: both amounts under the first's account and denomination
-abbrev pub joint_note : Note → Note → Note
-joint_note n k = record { owner = n.owner; denomination = n.denomination; amount = n.amount + k.amount }
 
 -- a place without the notes of account a and denomination d
 abbrev pub released : ℕ → ℕ → Place → Place

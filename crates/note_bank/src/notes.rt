@@ -2,7 +2,7 @@ ghost use Rattle.std.specs.Prelude.{◌≡◌, ℕ, ◌<◌, ◌≤◌, take, If
 ghost use Rattle.protocol.specs.House.{most};
 ghost use Rattle.protocol.specs.Ledger.{supply as supply_of, put as balance-put};
 ghost use Rattle.bank.specs.OneChain.{chains_kept};
-ghost use Rattle.note_bank.specs.Notes.{Proper, FreeFrom, Full, note_chains, note_balances, notes_kept};
+ghost use Rattle.note_bank.specs.Notes.{FreeFrom, Full, note_chains, note_balances, notes_kept};
 
 use crate::pairs;
 use crate::place::{Note, Place};
@@ -23,7 +23,6 @@ pub struct Notes {
     used: usize,
     ghost large: { 1024 ≤ vec_len places },
     ghost supplies: { (c d : ℕ) → supply_of (note_balances places.items) c d ≤ most },
-    ghost notes: { Proper places.items },
     ghost front: { used ≤ vec_len places },
     ghost rest: { FreeFrom used places.items },
 }
@@ -32,7 +31,6 @@ fn wipe(places: &mut Vec<Place>)
     ensures len { vec_len places.new ≡ vec_len places.old }
     ensures empty { note_balances places.new.items ≡ (λ _ _ _. 0) }
     ensures supplies { (c d : ℕ) → supply_of (note_balances places.new.items) c d ≤ most }
-    ensures notes { Proper places.new.items }
     ensures free { FreeFrom 0 places.new.items }
 {
     places.fill(None);
@@ -137,11 +135,7 @@ impl Store for Notes {
     // A new note.
     fn give(&mut self, holding: Holding, amount: u64) {
         let place = self.free_place();
-        self.places[place] = Some(Note {
-            owner: holding.account,
-            denomination: holding.denomination,
-            amount,
-        });
+        self.places[place] = Some(Note { holding, amount });
     }
 
     // What is left of the notes is one note.

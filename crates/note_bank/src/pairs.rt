@@ -1,7 +1,7 @@
 // What is done with the places: finding a free one, joining two notes, freeing places.
 ghost use Rattle.std.specs.Prelude.{◌≡◌, ℕ, ◌+◌, ◌<◌, ◌≤◌, map, length, MatchOption, slice_index_or};
 ghost use Rattle.protocol.specs.House.{most};
-ghost use Rattle.note_bank.specs.Notes.{Proper, Full, Alike, amount_of, belongs, joint_note, held, released};
+ghost use Rattle.note_bank.specs.Notes.{Full, Alike, amount_of, belongs, held, released};
 
 use crate::place::{Note, Place};
 use bank::Holding;
@@ -22,7 +22,6 @@ pub(crate) fn find_free(places: &[Place]) -> Option<usize>
 pub(crate) fn find_pair(places: &[Place]) -> (usize, usize)
     requires full { Full places.now }
     requires many { 768 < length places.now }
-    requires notes { Proper places.now }
     ensures order { result.0 < result.1 }
     ensures within { result.1 < length places.now }
     ensures alike { Alike (slice_index_or places.now result.0 None) (slice_index_or places.now result.1 None) }
@@ -30,7 +29,7 @@ pub(crate) fn find_pair(places: &[Place]) -> (usize, usize)
     let mut seen: [Option<usize>; PAIRS] = [None; PAIRS];
     for (index, place) in places.iter().enumerate() {
         if let Some(note) = place {
-            let pair = note.owner * DENOMINATIONS + note.denomination;
+            let pair = note.holding.account * DENOMINATIONS + note.holding.denomination;
             if let Some(earlier) = seen[pair] {
                 return (earlier, index);
             }
@@ -43,11 +42,11 @@ pub(crate) fn find_pair(places: &[Place]) -> (usize, usize)
 // Two notes of one owner and denomination as one.
 fn joint(first: Note, second: Note) -> Note
     requires { first.amount + second.amount ≤ most }
-    ensures { result ≡ joint_note first second }
+    ensures holding { result.holding ≡ first.holding }
+    ensures amount { result.amount ≡ first.amount + second.amount }
 {
     Note {
-        owner: first.owner,
-        denomination: first.denomination,
+        holding: first.holding,
         amount: first.amount + second.amount,
     }
 }
@@ -56,12 +55,10 @@ fn joint(first: Note, second: Note) -> Note
 pub(crate) fn join(places: &mut [Place], first: usize, second: usize)
     requires order { first < second }
     requires within { second < length places.old }
-    requires notes { Proper places.old }
     requires alike { Alike (slice_index_or places.old first None) (slice_index_or places.old second None) }
     requires fits { amount_of (slice_index_or places.old first None) + amount_of (slice_index_or places.old second None) ≤ most }
     ensures same { (a d : ℕ) → held places.new a d ≡ held places.old a d }
     ensures free { slice_index_or places.new second None ≡ None }
-    ensures notes { Proper places.new }
     ensures behind { (k : ℕ) → second < k → slice_index_or places.new k None ≡ slice_index_or places.old k None }
 {
     if let (Some(kept), Some(joined)) = (places[first], places[second]) {
@@ -74,9 +71,7 @@ pub(crate) fn join(places: &mut [Place], first: usize, second: usize)
 fn is_note_of(place: &Place, holding: Holding) -> bool
     ensures { result ≡ belongs holding.account holding.denomination place.now }
 {
-    place.is_some_and(|note| {
-        note.owner == holding.account && note.denomination == holding.denomination
-    })
+    place.is_some_and(|note| note.holding == holding)
 }
 
 // Frees each place with a note of the holding.

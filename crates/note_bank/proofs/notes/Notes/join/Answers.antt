@@ -2,7 +2,7 @@ use Rattle.std.proofs.Common.{◌≡◌, ℕ, ◌<◌, ◌≤◌, List, length, 
 use Rattle.ledger.proofs.Lent.{lent_whole}
 use Rattle.protocol.specs.House.{most}
 use Rattle.protocol.specs.Ledger.{Balances, supply}
-use Rattle.note_bank.specs.Notes.{Proper, FreeFrom, Alike, held, note_balances, Place}
+use Rattle.note_bank.specs.Notes.{FreeFrom, Alike, held, note_balances, Place}
 use Rattle.note_bank.proofs.Fronts.{in_front}
 use Rattle.note_bank.proofs.Joins.{joint_fits}
 use Rattle.note_bank.proofs.Shares.{balances_same}
@@ -24,7 +24,7 @@ join-requires-clause-fits c =
     let within : j < length xs = omega arith in
     let alike : Alike (get_or xs i None) (get_or xs j None) =
     rw (get_or-take bank.used xs i None before, get_or-take bank.used xs j None found) at (subst (λ (ys : List Place). Alike (get_or ys i None) (get_or ys j None)) c.front.ensures c.find_pair-first.ensures.alike) in
-    let fits = joint_fits xs i j order within (omega (arith, c.requires.served)) bank.notes alike bank.supplies in
+    let fits = joint_fits xs i j order within (omega (arith, c.requires.served)) alike bank.supplies in
     rw lent at fits
 
 -- What is joined are the places that were lent, whole, and they hold what they held.
@@ -38,13 +38,6 @@ invariant_of-self-clause-supplies c =
     let balances = balances_same bank.places.items c.join.new.places same (λ a d. c.join.ensures.same a d ∙ ap (λ (zs : List Place). held zs a d) c.deref_mut.ensures.value) in
     let Law : Balances → Type 0 = λ b. (c' d : ℕ) → supply b c' d ≤ most in
     subst Law (sym (ap note_balances whole ∙ balances)) bank.supplies
-
-pub invariant_of-self-clause-notes : goal.invariant_of-self-clause-notes
-invariant_of-self-clause-notes c =
-    let bank = c.args.self.now in
-    let l = bank.places.ok.0 in
-    let whole = lent_whole bank.places.len c.join.new.places bank.places.items (omega arith) (omega (arith, c.join.auto.places)) in
-    subst Proper (sym whole) c.join.ensures.notes
 
 pub invariant_of-self-clause-rest : goal.invariant_of-self-clause-rest
 invariant_of-self-clause-rest c =

@@ -6,8 +6,8 @@ use Rattle.ledger.proofs.Lent.{lent_whole}
 use Rattle.protocol.specs.House.{most}
 use Rattle.protocol.specs.Ledger.{Balances, supply, put}
 use Rattle.ledger.proofs.Supplies.{supplies_kept}
-use Rattle.note_bank.specs.Notes.{Proper, FreeFrom, released, note_balances, Place}
-use Rattle.note_bank.proofs.Shares.{balances_put, held_released, proper_released, rest_released, front_released}
+use Rattle.note_bank.specs.Notes.{FreeFrom, released, note_balances, Place}
+use Rattle.note_bank.proofs.Shares.{balances_put, held_released, rest_released, front_released}
 use Rattle.note_bank.proofs.notes.Notes.release.Goals as goal
 
 -- one balance is empty where the notes are freed
@@ -31,14 +31,6 @@ invariant_of-self-clause-supplies c =
     let Law : Balances → Type 0 = λ b. (c' d' : ℕ) → supply b c' d' ≤ most in
     let balances = balances-released xs at.account at.denomination (omega (arith, bank.large)) at.account_known at.denomination_known in
     subst Law (sym (ap note_balances e ∙ balances)) (supplies_kept (note_balances xs) 0 at.account at.denomination 0 at.account_known bank.supplies (omega (arith, bank.supplies 0 at.denomination)))
-
-pub invariant_of-self-clause-notes : goal.invariant_of-self-clause-notes
-invariant_of-self-clause-notes c =
-    let bank = c.args.self.now in
-    let xs = bank.places.items in
-    let at = c.args.holding in
-    let e = all-released bank.used bank.places.len at.account at.denomination xs c.deref_mut.result.now c.release.new.places bank.places.ok.0 bank.rest c.deref_mut.ensures.value c.release.ensures in
-    subst Proper (sym e) (proper_released xs at.account at.denomination bank.notes)
 
 pub invariant_of-self-clause-rest : goal.invariant_of-self-clause-rest
 invariant_of-self-clause-rest c =
