@@ -54,7 +54,8 @@ pub trait Store {
     fn at(&self, holding: Holding) -> u64
         ensures { result ≡ balances self.now 0 holding.account holding.denomination };
 
-    /// What the first `accounts` accounts have.
+    /// What the first `accounts` accounts have. Each store adds up its own rows: one method for all would ask of their rows what
+    /// this asks of the sum.
     fn sum_of(&self, accounts: usize, denomination: usize) -> u64
         requires accounts { accounts ≤ 24 }
         requires denomination { denomination < 32 }

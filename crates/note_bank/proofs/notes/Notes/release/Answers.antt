@@ -3,9 +3,8 @@ use borrow.Rule.Slice.PartMut.{post_of}
 use native.Mathlib.Nat.{sub-zero}
 use Rattle.std.proofs.lemmas.List.{length-map}
 use Rattle.ledger.proofs.Lent.{lent_whole}
-use Rattle.protocol.specs.House.{most}
-use Rattle.protocol.specs.Ledger.{Balances, supply, put}
-use Rattle.ledger.proofs.Supplies.{supplies_kept}
+use Rattle.protocol.specs.Ledger.{put}
+use Rattle.ledger.proofs.Supplies.{supplies_left}
 use Rattle.note_bank.specs.Notes.{FreeFrom, released, note_balances, Place}
 use Rattle.note_bank.proofs.Shares.{balances_put, held_released, rest_released, front_released}
 use Rattle.note_bank.proofs.notes.Notes.release.Goals as goal
@@ -28,9 +27,8 @@ invariant_of-self-clause-supplies c =
     let l = bank.places.ok.0 in
     let at = c.args.holding in
     let e = all-released bank.used bank.places.len at.account at.denomination xs c.deref_mut.result.now c.release.new.places l bank.rest c.deref_mut.ensures.value c.release.ensures in
-    let Law : Balances → Type 0 = λ b. (c' d' : ℕ) → supply b c' d' ≤ most in
     let balances = balances-released xs at.account at.denomination (omega (arith, bank.large)) at.account_known at.denomination_known in
-    subst Law (sym (ap note_balances e ∙ balances)) (supplies_kept (note_balances xs) 0 at.account at.denomination 0 at.account_known bank.supplies (omega (arith, bank.supplies 0 at.denomination)))
+    supplies_left (note_balances xs) _ 0 at.account at.denomination 0 (ap note_balances e ∙ balances) at.account_known bank.supplies (omega (arith, bank.supplies 0 at.denomination))
 
 pub invariant_of-self-clause-rest : goal.invariant_of-self-clause-rest
 invariant_of-self-clause-rest c =

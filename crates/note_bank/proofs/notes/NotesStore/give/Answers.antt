@@ -1,7 +1,6 @@
-use Rattle.std.proofs.Common.{ℕ, ◌+◌, ◌≤◌, ◌≢◌, sym, ap, ◌∙◌, subst, arith, get_or-set_other, None}
-use Rattle.protocol.specs.House.{most}
-use Rattle.protocol.specs.Ledger.{Balances, supply, put}
-use Rattle.ledger.proofs.Supplies.{supplies_kept}
+use Rattle.std.proofs.Common.{◌+◌, ◌≢◌, sym, ap, ◌∙◌, arith, get_or-set_other, None}
+use Rattle.protocol.specs.Ledger.{Balances, put}
+use Rattle.ledger.proofs.Supplies.{supplies_left}
 use Rattle.note_bank.specs.Notes.{note_balances}
 use Rattle.note_bank.proofs.Shares.{note_added}
 use Rattle.note_bank.proofs.notes.NotesStore.give.Goals as goal
@@ -13,9 +12,8 @@ invariant_of-self-clause-supplies c =
     let at = c.args.holding in
     let l = free.places.ok.0 in
     let e = note_added ys c.free_place-place.result _ (omega (arith, free.large)) (omega (arith, c.free_place-place.ensures.within, free.front)) c.free_place-place.ensures.free in
-    let Law : Balances → Type 0 = λ b. (c' d : ℕ) → supply b c' d ≤ most in
     let fits = rw (sym c.free_place-place.ensures.after) at c.requires.fits in
-    subst Law (sym e) (supplies_kept (note_balances ys) 0 at.account at.denomination (note_balances ys 0 at.account at.denomination + c.args.amount) at.account_known free.supplies (omega (arith, fits)))
+    supplies_left (note_balances ys) _ 0 at.account at.denomination _ e at.account_known free.supplies (omega (arith, fits))
 
 pub invariant_of-self-clause-rest : goal.invariant_of-self-clause-rest
 invariant_of-self-clause-rest c k h =
