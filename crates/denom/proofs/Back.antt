@@ -9,7 +9,7 @@ use Rattle.denom.specs.Denomination.{Denom, hopless, behind}
 use Rattle.denom.specs.Text.{hop_mark, hop_text, trace_text, denom_text, begins, hop_digit, hop_of, letter, letter_or_digit, each, is_symbol, only_symbol, behind_hop, read_on, read_from, denom_of}
 use Rattle.denom.specs.Views.{symbol_answer, denom_answer, put_hops, hops_after, count_after}
 use Rattle.denom.specs.Laws.{DenomsReadBack, DenomsWriteBack}
-use Rattle.denom.specs.Steps.{both, symbol_here}
+use Rattle.denom.proofs.Steps.{both, symbol_here}
 
 -- tests
 cond_some : {X : Type 0} (b : Bool) (x y : X) → cond b (Some x) None ≡ Some y → (b ≡ true) × (x ≡ y)

@@ -5,7 +5,7 @@ use Rattle.std.proofs.str.Laws.{order}
 use Rattle.std.proofs.lemmas.Bool.{cases_eq}
 use Rattle.figures.specs.Figures.{over}
 use Rattle.denom.specs.Text.{each, letter, letter_or_digit, is_symbol}
-use Rattle.denom.specs.Steps.{both}
+use Rattle.denom.proofs.Steps.{both}
 
 -- a channel written into a table of channels leaves a table of channels
 pub channels_set : (at : List ℕ) (d h : ℕ) → h < 8 → ((i : ℕ) → get_or at i 0 < 8) → (i : ℕ) → get_or (set at d h) i 0 < 8

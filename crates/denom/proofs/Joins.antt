@@ -1,21 +1,8 @@
--- One piece after another in a buffer, and a trace by its first hop.
-use Rattle.std.proofs.Common.{◌≡◌, ℕ, ◌+◌, ◌-◌, ◌*◌, ◌<◌, ◌≤◌, true, ltb, List, [], ◌∷◌, ◌++◌, length, get_or, take, drop, sym, refl, ap, ◌∙◌, subst, append_assoc, arith, length-append, length-take-le, ltb-true}
-use Rattle.std.proofs.lemmas.List.{take_at, drop_at, drop-drop}
+-- A trace by its first hop.
+use Rattle.std.proofs.Common.{◌≡◌, ℕ, ◌+◌, ◌-◌, ◌*◌, ◌<◌, true, ltb, List, [], ◌∷◌, ◌++◌, length, get_or, take, drop, refl, ap, subst, arith, length-append, ltb-true}
 use Rattle.std.proofs.lemmas.Slice.{first_rest}
-use Rattle.figures.specs.Figures.{over, into}
 use Rattle.denom.specs.Text.{each, hop_mark, hop_text, trace_text}
-use Rattle.denom.specs.Steps.{both}
-
-pub into_into : (a b : List ℕ) (at : ℕ) (buf : List ℕ) → at ≤ length buf → into b (at + length a) (into a at buf) ≡ into (a ++ b) at buf
-into_into a b at buf fits =
-    let pre = take at buf in
-    let rest = drop (length a) (drop at buf) in
-    let long : length (pre ++ a) ≡ at + length a = length-append pre a ∙ ap (λ n. n + length a) (length-take-le at buf fits) in
-    let left : pre ++ (a ++ rest) ≡ (pre ++ a) ++ rest = sym (append_assoc pre a rest) in
-    ap (into b (at + length a)) left
-    ∙ (λ i. take_at (pre ++ a) rest (at + length a) long i ++ over b (drop_at (pre ++ a) rest (at + length a) long i))
-    ∙ append_assoc pre a (over b rest)
-    ∙ ap (λ l. pre ++ l) (sym (append_assoc a b (drop (length b) rest)) ∙ ap (λ l. (a ++ b) ++ l) (drop-drop (length b) (length a) (drop at buf) ∙ ap (λ n. drop n (drop at buf)) (sym (length-append a b))))
+use Rattle.denom.proofs.Steps.{both}
 
 -- a trace with no hop is its symbol
 pub no_hops : (hs s : List ℕ) → length hs ≡ 0 → trace_text hs s ≡ s

@@ -1,5 +1,6 @@
 -- Denominations as text: for each hop `transfer/channel-`, a digit 0 to 7 and `/`, the first hop first, and then the symbol.
 use Rattle.std.specs.Prelude.{ℕ, zero, suc, ◌+◌, ◌-◌, Bool, true, false, cond, ◌&&◌, ◌||◌, List, [], ◌∷◌, ◌++◌, length, drop, Some, None, codes, Option, ◌==◌, nat_le, nat_lt, slice_index}
+use Rattle.std.specs.List.{list_all}
 use Rattle.denom.specs.Denomination.{Denom, hopless, behind}
 
 -- a to z
@@ -12,8 +13,7 @@ letter_or_digit c = letter c || (nat_le 48 c && nat_le c 57)
 
 -- whether each number passes the test
 abbrev pub each : (ℕ → Bool) → List ℕ → Bool
-each p [] = true
-each p (c ∷ cs) = p c && each p cs
+each p bs = list_all p bs
 
 -- a symbol is a letter and then at most 15 letters or digits
 abbrev pub is_symbol : List ℕ → Bool

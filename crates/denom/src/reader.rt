@@ -1,86 +1,45 @@
-ghost use Rattle.std.specs.Prelude.{◌≡◌, ℕ, ◌+◌, ◌-◌, ◌*◌, ◌<◌, ◌≤◌, true, [], ◌∷◌, length, drop, replicate, IfSome, IfOk, MatchResult, ◌≢◌};
+ghost use Rattle.std.specs.Prelude.{◌≡◌, ℕ, ◌+◌, ◌-◌, ◌*◌, ◌<◌, ◌≤◌, true, [], ◌∷◌, length, drop, IfSome, IfOk, MatchResult, ◌≢◌};
 ghost use Rattle.denom.specs.Denomination.{hopless};
 ghost use Rattle.std.specs.Result.{result_map_both};
-ghost use Rattle.denom.specs.Text.{begins, hop_of, hop_digit, letter, letter_or_digit, each, is_symbol, read_from, denom_of};
+ghost use Rattle.denom.specs.Text.{hop_of, letter_or_digit, each, is_symbol, read_from, denom_of};
 ghost use Rattle.denom.specs.Views.{symbol_answer, hops_after, count_after, hops_of, symbol_of, denom_view, denom_answer};
 ghost use Rattle.denom.specs.Laws.{DenomsReadBack, DenomsWriteBack};
 
-use super::types::{Denomination, Hops, Symbol, TextFault};
+use super::types::{Denomination, Hops, MOST_HOPS, Symbol, TextFault};
 use figures::put_bytes;
-
-const MOST_HOPS: usize = 6;
-
-const HOP_MARK: &[u8] = b"transfer/channel-";
-
-fn begins_with(text: &[u8], front: &[u8]) -> bool
-    ensures { result ≡ begins front.now text.now }
-{
-    if text.len() < front.len() {
-        return false;
-    }
-    for (i, b) in front.iter().enumerate() {
-        if text[i] != *b {
-            return false;
-        }
-    }
-    true
-}
-
-fn hop_digit(digit: u8, slash: u8) -> Option<u8>
-    ensures value { result ≡ hop_digit digit slash }
-    ensures channel { IfSome result (λ h. h < 8) }
-{
-    if digit >= b'0' && digit <= b'7' && slash == b'/' {
-        Some(digit - b'0')
-    } else {
-        None
-    }
-}
 
 // The hop that a text begins with.
 fn hop_of(text: &[u8]) -> Option<u8>
     ensures value { result ≡ hop_of text.now }
     ensures long { IfSome result (λ h. (19 ≤ length text.now) × (h < 8)) }
 {
-    if text.len() < 19 {
-        return None;
+    match text.strip_prefix(b"transfer/channel-")? {
+        [digit @ b'0'..=b'7', b'/', ..] => Some(*digit - b'0'),
+        _ => None,
     }
-    if !begins_with(text, HOP_MARK) {
-        return None;
-    }
-    hop_digit(text[17], text[18])
-}
-
-fn is_letter(c: u8) -> bool
-    ensures { result ≡ letter c }
-{
-    c >= b'a' && c <= b'z'
 }
 
 fn is_letter_or_digit(c: u8) -> bool
     ensures { result ≡ letter_or_digit c }
 {
-    is_letter(c) || (c >= b'0' && c <= b'9')
+    c.is_ascii_lowercase() || c.is_ascii_digit()
 }
 
 fn all_letters_or_digits(text: &[u8]) -> bool
     ensures { result ≡ each letter_or_digit text.now }
 {
-    for c in text {
-        if !is_letter_or_digit(*c) {
-            return false;
-        }
-    }
-    true
+    text.iter().all(|c| is_letter_or_digit(*c))
 }
 
 fn spells_symbol(text: &[u8]) -> bool
     ensures { result ≡ is_symbol text.now }
 {
-    if text.is_empty() {
-        return false;
+    match text {
+        [first, rest @ ..] => {
+            first.is_ascii_lowercase() && rest.len() <= 15 && all_letters_or_digits(rest)
+        }
+        [] => false,
     }
-    is_letter(text[0]) & (text.len() <= 16) & all_letters_or_digits(&text[1..])
 }
 
 // Reads on after `depth` hops. A hop is stored once the rest has been read, so a refusal leaves the record as it was.
@@ -128,17 +87,23 @@ impl Hops {
     }
 }
 
-impl Symbol {
-    /// The symbol that a text spells.
-    pub fn of(text: &[u8]) -> Result<Symbol, TextFault>
-        ensures { MatchResult result (λ s. (is_symbol text.now ≡ true) × (symbol_of s ≡ text.now)) (λ e. (e ≡ TextFault.NotASymbol) × (is_symbol text.now ≢ true)) }
-    {
+/// The symbol that a text spells.
+impl TryFrom<&[u8]> for Symbol {
+    ghost use Rattle.denom.specs.declared.types.TextFault.TheVariants.{NotASymbol};
+
+    type Error = TextFault;
+
+    ghost try_from_gives = { λ text r. MatchResult r (λ s. (is_symbol text.now ≡ true) × (symbol_of s ≡ text.now)) (λ e. (e ≡ NotASymbol) × (is_symbol text.now ≢ true)) };
+
+    fn try_from(text: &[u8]) -> Result<Symbol, TextFault> {
         if !spells_symbol(text) {
             return Err(TextFault::NotASymbol);
         }
         Ok(Symbol::copied(text))
     }
+}
 
+impl Symbol {
     // A record of its own for a text that is a symbol.
     fn copied(text: &[u8]) -> Symbol
         requires { is_symbol text.now ≡ true }
@@ -153,19 +118,16 @@ impl Symbol {
     }
 }
 
-impl Denomination {
-    /// The denomination that a text stands for.
-    pub fn of(text: &[u8]) -> Result<Denomination, TextFault>
-        ensures { result_map_both denom_view (λ e. e) result ≡ denom_answer (denom_of text.now) }
-    {
+/// The denomination that a text stands for.
+impl TryFrom<&[u8]> for Denomination {
+    type Error = TextFault;
+
+    ghost try_from_gives = { λ text r. result_map_both denom_view (λ e. e) r ≡ denom_answer (denom_of text.now) };
+
+    fn try_from(text: &[u8]) -> Result<Denomination, TextFault> {
         let mut hops = Hops::none();
-        match read_denomination(text, &mut hops) {
-            Ok(rest) => match Symbol::of(rest) {
-                Ok(symbol) => Ok(Denomination { hops, symbol }),
-                Err(_) => Err(TextFault::NotADenomination),
-            },
-            Err(fault) => Err(fault),
-        }
+        let symbol = Symbol::copied(read_denomination(text, &mut hops)?);
+        Ok(Denomination { hops, symbol })
     }
 }
 

@@ -3,11 +3,9 @@ ghost use Rattle.std.specs.Option.{option_map};
 ghost use Rattle.denom.specs.Denomination.{came_by, behind as behind_hop, stripped as without-hop, hopless as hopless-of};
 ghost use Rattle.denom.specs.Views.{denom_view, symbol_of};
 
-use super::types::{Denomination, Hops, Symbol};
+use super::types::{Denomination, Hops, MOST_HOPS, Symbol};
 
-// A trace has at most six hops, and a chain's channels are 0 to 7.
-const MOST_HOPS: usize = 6;
-
+// A chain's channels are 0 to 7.
 const CHANNELS: usize = 8;
 
 impl Denomination {

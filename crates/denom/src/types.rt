@@ -1,6 +1,11 @@
 ghost use Rattle.std.specs.Prelude.{◌≡◌, ℕ, ◌<◌, ◌≤◌, true, length, take, slice_index};
 ghost use Rattle.denom.specs.Text.{is_symbol};
 
+// A trace has at most six hops.
+pub(crate) const MOST_HOPS: usize = 6;
+
+// The length stands beside the bytes, as these records are copied and stand in fixed memory.
+
 /// The hops of a denomination, the first hop first: at most six, each a channel 0 to 7.
 #[derive(Clone, Copy)]
 pub struct Hops {
@@ -22,14 +27,14 @@ pub struct Symbol {
 }
 
 /// A denomination as a chain holds it.
-#[derive(Clone, Copy)]
+#[derive(Clone, Copy, PartialEq, Eq)]
 pub struct Denomination {
     pub hops: Hops,
     pub symbol: Symbol,
 }
 
 /// A token: the chain that issued it, and its symbol.
-#[derive(Clone, Copy)]
+#[derive(Clone, Copy, PartialEq, Eq)]
 pub struct TokenId {
     pub chain: usize,
     pub symbol: Symbol,

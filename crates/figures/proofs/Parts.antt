@@ -1,8 +1,10 @@
 -- A write to the part of a buffer from a place on.
-use Rattle.std.proofs.Common.{◌≡◌, ℕ, ◌+◌, ◌-◌, ◌≤◌, List, [], ◌∷◌, ◌++◌, length, take, drop, sym, refl, ap, ◌∙◌, subst, append_assoc, append-nil, arith, length-append, length-drop, length-take}
+use Rattle.std.proofs.Common.{◌≡◌, ℕ, ◌+◌, ◌-◌, ◌≤◌, List, [], ◌∷◌, ◌++◌, length, take, drop, sym, refl, ap, ◌∙◌, append_assoc, append-nil, arith, length-append, length-drop, length-take, length-take-le, take-append-drop}
 use borrow.Rule.Slice.PartMut.{put_mid}
 use Rattle.std.proofs.lemmas.List.{drop_all, drop-drop, take_rest, take_at, drop_at}
-use Rattle.figures.specs.Figures.{over, into, spaced, Holds}
+use Rattle.figures.specs.Figures.{over, into, spaced}
+use Rattle.figures.specs.Lines.{Appends}
+use Rattle.figures.specs.declared.line.Line.{Line}
 
 pub to_end : (at : ℕ) (xs ys : List ℕ) → put_mid at (length xs - at) xs ys ≡ take at xs ++ ys
 to_end at xs ys = ap (λ l. take at xs ++ (ys ++ l)) (drop_all (length xs - at) (drop at xs) (omega (arith, length-drop at xs))) ∙ ap (λ l. take at xs ++ l) (append-nil ys)
@@ -13,37 +15,40 @@ laid ds at xs ys e = to_end at xs ys ∙ ap (λ l. take at xs ++ l) (e ∙ ap (o
 pub length_into : (ds : List ℕ) (at : ℕ) (xs : List ℕ) → at + length ds ≤ length xs → length (into ds at xs) ≡ length xs
 length_into ds at xs h = simp (length-append, length-drop, length-take) (omega arith)
 
--- one piece after another
-pub into_over : (xs ds base : List ℕ) → into ds (length xs) (over xs base) ≡ over (xs ++ ds) base
-into_over xs ds base =
-    (λ i. take_at xs (drop (length xs) base) (length xs) refl i ++ over ds (drop_at xs (drop (length xs) base) (length xs) refl i))
-    ∙ ap (λ l. xs ++ (ds ++ l)) (drop-drop (length ds) (length xs) base ∙ ap (λ n. drop n base) (sym (length-append xs ds)))
-    ∙ sym (append_assoc xs ds (drop (length (xs ++ ds)) base))
+-- one text behind another
+pub into_into : (a b : List ℕ) (at : ℕ) (buf : List ℕ) → at ≤ length buf → into b (at + length a) (into a at buf) ≡ into (a ++ b) at buf
+into_into a b at buf fits =
+    let pre = take at buf in
+    let rest = drop (length a) (drop at buf) in
+    let long : length (pre ++ a) ≡ at + length a = length-append pre a ∙ ap (λ n. n + length a) (length-take-le at buf fits) in
+    let left : pre ++ (a ++ rest) ≡ (pre ++ a) ++ rest = sym (append_assoc pre a rest) in
+    ap (into b (at + length a)) left
+    ∙ (λ i. take_at (pre ++ a) rest (at + length a) long i ++ over b (drop_at (pre ++ a) rest (at + length a) long i))
+    ∙ append_assoc pre a (over b rest)
+    ∙ ap (λ l. pre ++ l) (sym (append_assoc a b (drop (length b) rest)) ∙ ap (λ l. (a ++ b) ++ l) (drop-drop (length b) (length a) (drop at buf) ∙ ap (λ n. drop n (drop at buf)) (sym (length-append a b))))
 
--- the same, from a place and a buffer that are known to be such
-pub piece : (xs ds base buffer : List ℕ) (at : ℕ) → at ≡ length xs → buffer ≡ over xs base → into ds at buffer ≡ over (xs ++ ds) base
-piece xs ds base buffer at a b = (λ i. into ds (a i) (b i)) ∙ into_over xs ds base
+-- nothing written
+pub nothing : (l : Line) → l.at ≤ length l.buffer.now → Appends [] l l
+nothing l fits = record { at = omega arith; fits = fits; room = refl; buffer = sym (take-append-drop l.at l.buffer.now); lender = refl }
 
--- a word with its space: two pieces are one
-pub two_pieces : (at : ℕ) (buffer : List ℕ) (xs a b before : List ℕ) → Holds at buffer ((xs ++ a) ++ b) before → Holds at buffer (xs ++ (a ++ b)) before
-two_pieces at buffer xs a b before h =
-    let P : List ℕ → Type 0 = λ l. Holds at buffer l before in
-    subst P (append_assoc xs a b) h
+-- a text and then another
+pub then_more : (a b : List ℕ) (l m n : Line) → Appends a l m → Appends b m n → Appends (a ++ b) l n
+then_more a b l m n first more =
+    record {
+      at = omega (arith, first.at, more.at, length-append a b);
+      fits = more.fits;
+      room = more.room ∙ first.room;
+      buffer = more.buffer ∙ (λ i. into b (first.at i) (first.buffer i)) ∙ into_into a b l.at l.buffer.now (omega (arith, first.at, first.fits, first.room));
+      lender = more.lender ∙ first.lender;
+    }
 
--- words written one after another, each with its space
-abbrev pub after_words : List ℕ → List (List ℕ) → List ℕ
-after_words xs [] = xs
-after_words xs (w ∷ ws) = after_words (xs ++ (32 ∷ w)) ws
+-- a space and then a text
+pub space_more : (w : List ℕ) (l m n : Line) → Appends (32 ∷ []) l m → Appends w m n → Appends (32 ∷ w) l n
+space_more w l m n space more = then_more (32 ∷ []) w l m n space more
 
-spaced_after : (xs : List ℕ) (ws : List (List ℕ)) → after_words xs ws ≡ xs ++ spaced ws
-spaced_after xs [] = sym (append-nil xs)
-spaced_after xs (w ∷ ws) = spaced_after (xs ++ (32 ∷ w)) ws ∙ append_assoc xs (32 ∷ w) (spaced ws)
-
--- a buffer that holds them so holds them as they are spelt
-pub words_held : (at : ℕ) (buffer xs : List ℕ) (ws : List (List ℕ)) (before : List ℕ) → Holds at buffer (after_words xs ws) before → Holds at buffer (xs ++ spaced ws) before
-words_held at buffer xs ws before h =
-    let P : List ℕ → Type 0 = λ l. Holds at buffer l before in
-    subst P (spaced_after xs ws) h
+-- a word with its space, and then others with theirs
+pub word_more : (w : List ℕ) (ws : List (List ℕ)) (l m n : Line) → Appends (32 ∷ w) l m → Appends (spaced ws) m n → Appends (spaced (w ∷ ws)) l n
+word_more w ws l m n first more = then_more (32 ∷ w) (spaced ws) l m n first more
 
 -- A text laid over the front of a buffer that has room for it is within the buffer, and can be read there.
 module _ (n : ℕ) (text before after : List ℕ) (long : n ≡ length text) (laid-over : after ≡ over text before) where

@@ -1,5 +1,5 @@
-ghost use Rattle.std.specs.Prelude.{◌≡◌, ℕ, ◌+◌, ◌<◌, ◌≤◌, List, ◌∷◌, ◌++◌, length};
-ghost use Rattle.figures.specs.Figures.{figure, over, into, Holds};
+ghost use Rattle.std.specs.Prelude.{◌≡◌, ℕ, ◌+◌, ◌≤◌, ◌∷◌, length};
+ghost use Rattle.figures.specs.Figures.{figure, over};
 
 use super::numbers::write_figure;
 
@@ -11,6 +11,8 @@ pub struct Line<'a> {
 }
 
 impl<'a> Line<'a> {
+    ghost use Rattle.figures.specs.Lines.{HasRoom, Appends};
+
     /// A line that has nothing yet.
     pub fn over(buffer: &'a mut [u8]) -> Line<'a>
         ensures at { result.at ≡ 0 }
@@ -30,12 +32,8 @@ impl<'a> Line<'a> {
 
     /// The digits of a number, written into the part of the buffer that is still free.
     pub fn figure(&mut self, n: u128)
-        requires { self.old.at + length (figure n) ≤ length self.old.buffer.now }
-        ensures room { length self.new.buffer.now ≡ length self.old.buffer.now }
-        ensures at { self.new.at ≡ self.old.at + length (figure n) }
-        ensures buffer { self.new.buffer.now ≡ into (figure n) self.old.at self.old.buffer.now }
-        ensures holds { (xs before : List ℕ) → Holds self.old.at self.old.buffer.now xs before → Holds self.new.at self.new.buffer.now (xs ++ figure n) before }
-        ensures lender { self.new.buffer.ghost_name ≡ self.old.buffer.ghost_name }
+        requires { HasRoom (length (figure n)) self.old }
+        ensures { Appends (figure n) self.old self.new }
     {
         let at = self.at;
         let wrote = write_figure(&mut self.buffer[at..], n);
@@ -44,12 +42,8 @@ impl<'a> Line<'a> {
 
     /// Some bytes, laid into the part of the buffer that is still free.
     pub fn bytes(&mut self, text: &[u8])
-        requires { self.old.at + length text.now ≤ length self.old.buffer.now }
-        ensures room { length self.new.buffer.now ≡ length self.old.buffer.now }
-        ensures at { self.new.at ≡ self.old.at + length text.now }
-        ensures buffer { self.new.buffer.now ≡ into text.now self.old.at self.old.buffer.now }
-        ensures holds { (xs before : List ℕ) → Holds self.old.at self.old.buffer.now xs before → Holds self.new.at self.new.buffer.now (xs ++ text.now) before }
-        ensures lender { self.new.buffer.ghost_name ≡ self.old.buffer.ghost_name }
+        requires { HasRoom (length text.now) self.old }
+        ensures { Appends text.now self.old self.new }
     {
         let at = self.at;
         put_bytes(&mut self.buffer[at..], text);
@@ -57,24 +51,20 @@ impl<'a> Line<'a> {
     }
 
     /// A space and some bytes.
+    #[tactic(auto, using(crate::proofs::Parts::space_more))]
     pub fn word(&mut self, text: &[u8])
-        requires { self.old.at + 1 + length text.now ≤ length self.old.buffer.now }
-        ensures room { length self.new.buffer.now ≡ length self.old.buffer.now }
-        ensures at { self.new.at ≡ self.old.at + 1 + length text.now }
-        ensures holds { (xs before : List ℕ) → Holds self.old.at self.old.buffer.now xs before → Holds self.new.at self.new.buffer.now (xs ++ (32 ∷ text.now)) before }
-        ensures lender { self.new.buffer.ghost_name ≡ self.old.buffer.ghost_name }
+        requires { HasRoom (1 + length text.now) self.old }
+        ensures { Appends (32 ∷ text.now) self.old self.new }
     {
         self.bytes(b" ");
         self.bytes(text);
     }
 
     /// A space and the digits of a number.
+    #[tactic(auto, using(crate::proofs::Parts::space_more))]
     pub fn figure_word(&mut self, n: u128)
-        requires { self.old.at + 1 + length (figure n) ≤ length self.old.buffer.now }
-        ensures room { length self.new.buffer.now ≡ length self.old.buffer.now }
-        ensures at { self.new.at ≡ self.old.at + 1 + length (figure n) }
-        ensures holds { (xs before : List ℕ) → Holds self.old.at self.old.buffer.now xs before → Holds self.new.at self.new.buffer.now (xs ++ (32 ∷ figure n)) before }
-        ensures lender { self.new.buffer.ghost_name ≡ self.old.buffer.ghost_name }
+        requires { HasRoom (1 + length (figure n)) self.old }
+        ensures { Appends (32 ∷ figure n) self.old self.new }
     {
         self.bytes(b" ");
         self.figure(n);

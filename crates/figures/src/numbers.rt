@@ -11,22 +11,15 @@ fn has_leading_zero(text: &[u8]) -> bool
 pub fn read_number(text: &[u8]) -> Option<u64>
     ensures { result ≡ number_read text.now }
 {
-    if text.is_empty() {
-        return None;
-    }
-    if has_leading_zero(text) {
+    if text.is_empty() || has_leading_zero(text) {
         return None;
     }
     let mut n: u64 = 0;
     for b in text {
-        if *b < b'0' || *b > b'9' {
+        if !b.is_ascii_digit() {
             return None;
         }
-        let d = (*b - b'0') as u64;
-        if n > (u64::MAX - d) / 10 {
-            return None;
-        }
-        n = n * 10 + d;
+        n = n.checked_mul(10)?.checked_add(u64::from(*b - b'0'))?;
     }
     Some(n)
 }

@@ -8,3 +8,4 @@ pub mod Calls
 pub mod Audit
 pub mod Laws
 pub mod Known
+pub mod Requests

@@ -1,4 +1,4 @@
-// The definitions of the whole model (specs/), its laws, and the faults, marks and counts that the layers share.
+// The definitions of the whole model (specs/), its laws, and the faults, marks, requests and counts that the layers share.
 #![tactic(auto)]
 
 mod faults;
@@ -6,6 +6,7 @@ mod house;
 mod laws;
 mod link_kind;
 mod marks;
+mod requests;
 
 pub use faults::{AuditFault, BookFault, Fault, Layer, LedgerFault, ScriptFault, WorldFault};
 pub use house::{
@@ -15,3 +16,4 @@ pub use house::{
 pub use laws::{bounded, conserved, known_outcomes, refusals_in_order, supply_is_accounted};
 pub use link_kind::LinkKind;
 pub use marks::Mark;
+pub use requests::{PacketId, Transfer};

@@ -13,9 +13,6 @@ impl LinkKind {
     pub fn is_strict(self) -> bool
         ensures { result ≡ is_strict self }
     {
-        match self {
-            LinkKind::Free => false,
-            LinkKind::Strict => true,
-        }
+        self == LinkKind::Strict
     }
 }

@@ -1,5 +1,6 @@
 -- Where the first row that passes a test stands.
-use Rattle.std.proofs.Common.{◌≡◌, ℕ, zero, suc, ◌+◌, ◌<◌, ◌≤◌, Bool, true, false, cond, ltb, List, [], ◌∷◌, ◌++◌, length, get_or, take, drop, set, is_some, IfSome, Some, None, Option, sym, refl, ap, ◌∙◌, subst, ⊎_elim, arith, ltb-false, ltb-true, le-ltb, lt-ltb}
+use Rattle.std.proofs.Common.{◌≡◌, ℕ, zero, suc, ◌+◌, ◌<◌, ◌≤◌, Bool, true, false, not, cond, ltb, List, [], ◌∷◌, ◌++◌, length, get_or, take, drop, set, is_some, IfSome, Some, None, Option, sym, refl, ap, ◌∙◌, subst, ⊎_elim, arith, ltb-false, ltb-true, le-ltb, lt-ltb}
+use Rattle.std.specs.List.{position_or_len, position}
 use Rattle.std.proofs.lemmas.List.{at_drop_more, at_drop_all, get_or_append_left, get_or_push, length_push, take_more_set}
 use Rattle.std.proofs.str.Laws.{order}
 use Rattle.register.specs.Keys.{place, found, number_of, kept, kept_count, entered, Distinct, StaysDistinct, KeepsOrder, OneNumber}
@@ -33,6 +34,16 @@ number_none p xs i past within inv =
     let end : place p (drop i xs) ≡ 0 = at_drop_all (place p) xs i past in
     let out : ltb (place p xs) (length xs) ≡ false = le-ltb (place p xs) (length xs) (omega (arith, end, inv)) in
     sym (rw out refl)
+
+-- the library's words for it
+place_is : {K : Type 0} (p : K → Bool) (xs : List K) → position_or_len p xs ≡ place p xs
+place_is p [] = refl
+place_is p (x ∷ xs) =
+    let P : Bool → Type 0 = λ b. cond (not b) (1 + position_or_len p xs) 0 ≡ cond b 0 (suc (place p xs)) in
+    elim (p x) as P [ true ↦ refl | false ↦ omega (arith, place_is p xs) ]
+
+pub position_is : {K : Type 0} (p : K → Bool) (xs : List K) → position p xs ≡ number_of p xs
+position_is p xs = ap (λ n. cond (ltb n (length xs)) (Some n) None) (place_is p xs)
 
 -- the place is the length at most
 pub place_le : {K : Type 0} (p : K → Bool) (xs : List K) → place p xs ≤ length xs

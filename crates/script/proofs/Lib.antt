@@ -1,2 +1,2 @@
 pub mod Cuts
-pub mod Steps
+pub mod Given

@@ -14,7 +14,7 @@ pub fn is_comment(line: &[u8]) -> bool
 fn may_follow(after_space: bool, b: u8) -> bool
     ensures { result ≡ may_follow after_space b }
 {
-    b >= 32 && b <= 126 && !(after_space && b == b' ')
+    matches!(b, b' '..=b'~') && !(after_space && b == b' ')
 }
 
 /// Whether each byte is from 32 to 126, and no space is first, last or doubled.
@@ -35,24 +35,12 @@ pub fn is_well_formed(line: &[u8]) -> bool
 pub fn word_at<'a>(line: &'a [u8], place: usize) -> &'a [u8]
     ensures { result.now ≡ slice_index_or (words line.now) place [] }
 {
-    let mut words = Reader::over(line, b' ');
-    for _ in 0..place {
-        let _ = words.next_piece();
-    }
-    match words.next_piece() {
-        Some(word) => word,
-        None => &line[0..0],
-    }
+    Reader::over(line, b' ').nth(place).unwrap_or(b"")
 }
 
 /// How many words a line has.
 pub fn count_words(line: &[u8]) -> usize
     ensures { result ≡ length (words line.now) }
 {
-    let mut n: usize = 0;
-    let mut words = Reader::over(line, b' ');
-    while let Some(_w) = words.next_piece() {
-        n += 1;
-    }
-    n
+    Reader::over(line, b' ').count()
 }

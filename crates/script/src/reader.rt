@@ -1,6 +1,5 @@
-ghost use Rattle.std.specs.Prelude.{◌≡◌, ℕ, ◌+◌, ◌^◌, ◌<◌, ◌≤◌, [], length, take, drop, IfSome, MatchOption, ◌≢◌, slice_index};
-ghost use Rattle.std.specs.Option.{option_map};
-ghost use Rattle.script.specs.Lines.{pieces, words, Next};
+ghost use Rattle.std.specs.Prelude.{◌≡◌, ℕ, ◌<◌, ◌≤◌, length, ◌≢◌, slice_index};
+ghost use Rattle.std.specs.Iterator.{item_count};
 
 /// A text read in place, piece by piece, each up to the byte `end`.
 #[derive(Drop)]
@@ -16,12 +15,7 @@ fn find_end(text: &[u8], end: u8) -> usize
     ensures before { (k : ℕ) → k < result → slice_index text.now k ≢ end }
     ensures stops { result < length text.now → slice_index text.now result ≡ end }
 {
-    for (i, b) in text.iter().enumerate() {
-        if *b == end {
-            return i;
-        }
-    }
-    text.len()
+    text.iter().position(|b| *b == end).unwrap_or(text.len())
 }
 
 impl<'a> Reader<'a> {
@@ -33,15 +27,19 @@ impl<'a> Reader<'a> {
     {
         Reader { text, at: 0, end }
     }
+}
 
-    /// The next piece, which is a part of the text, or nothing at its end.
-    pub fn next_piece(&mut self) -> Option<&'a [u8]>
-        ensures piece { Next self.old.end (drop self.old.at self.old.text.now) (option_map (λ p. p.now) result) (drop self.new.at self.new.text.now) }
-        ensures place { IfSome result (λ p. p.now ≡ take (length p.now) (drop self.old.at self.old.text.now)) }
-        ensures onward { MatchOption result (self.new.at ≡ self.old.at) (λ p. (self.old.at < self.new.at) × (self.new.at < 2 ^ 64)) }
-        ensures text { self.new.text.now ≡ self.old.text.now }
-        ensures end { self.new.end ≡ self.old.end }
-    {
+/// The pieces, each a part of the text.
+impl<'a> Iterator for Reader<'a> {
+    ghost use Rattle.script.specs.Readers.{pieces_left, GivesPiece};
+
+    type Item = &'a [u8];
+
+    ghost next_gives = { GivesPiece };
+
+    ghost remaining = { item_count pieces_left };
+
+    fn next(&mut self) -> Option<&'a [u8]> {
         if self.at >= self.text.len() {
             return None;
         }
@@ -77,20 +75,21 @@ impl<'a> Script<'a> {
             read: 0,
         }
     }
+}
 
-    /// The next line and its number, or nothing at the end.
-    pub fn next_line(&mut self) -> Option<(usize, &'a [u8])>
-        ensures line { Next self.old.lines.end (drop self.old.lines.at self.old.lines.text.now) (option_map (λ p. p.1.now) result) (drop self.new.lines.at self.new.lines.text.now) }
-        ensures number { MatchOption result (self.new.read ≡ self.old.read) (λ p. (p.0 ≡ self.old.read + 1) × (self.new.read ≡ self.old.read + 1)) }
-        ensures text { self.new.lines.text.now ≡ self.old.lines.text.now }
-        ensures end { self.new.lines.end ≡ self.old.lines.end }
-    {
-        match self.lines.next_piece() {
-            Some(line) => {
-                self.read += 1;
-                Some((self.read, line))
-            }
-            None => None,
-        }
+/// The lines, each with its number.
+impl<'a> Iterator for Script<'a> {
+    ghost use Rattle.script.specs.Readers.{lines_left, GivesLine};
+
+    type Item = (usize, &'a [u8]);
+
+    ghost next_gives = { GivesLine };
+
+    ghost remaining = { item_count lines_left };
+
+    fn next(&mut self) -> Option<(usize, &'a [u8])> {
+        let line = self.lines.next()?;
+        self.read += 1;
+        Some((self.read, line))
     }
 }

@@ -1,33 +1,16 @@
--- How many rows pass a test, counted from the first on.
-use Rattle.std.proofs.Common.{◌≡◌, ℕ, ◌+◌, ◌<◌, ◌≤◌, Bool, true, false, List, [], ◌∷◌, map, length, get_or, drop, sym, refl, ap, ◌∙◌, arith}
-use Rattle.std.proofs.lemmas.List.{at_drop_more, at_drop_all}
+-- How many rows pass a test.
+use Rattle.std.proofs.Common.{◌≡◌, ℕ, ◌+◌, ◌≤◌, Bool, true, false, cond, List, [], ◌∷◌, map, length, sym, refl, ap, ◌∙◌, arith}
+use Rattle.std.specs.List.{count_by}
+use Rattle.std.proofs.lemmas.List.Recursion.{is_count_by}
 use Rattle.sums.specs.Sums.{count, gate}
 
-module _ {X : Type 0} (p : X → Bool) (xs : List X) where
-  -- n of the first i rows pass
-  abbrev pub Tallied : ℕ → ℕ → Type 0
-  Tallied n i = (n ≤ i) × (n + count p (drop i xs) ≡ count p xs)
-
-  one_row : (i : ℕ) (x : X) → i < length xs → x ≡ get_or xs i x → count p (drop i xs) ≡ gate (p x) 1 + count p (drop (i + 1) xs)
-  one_row i x h read = at_drop_more (count p) xs i x h ∙ ap (λ (y : X). gate (p y) 1 + count p (drop (i + 1) xs)) (sym read)
-
-  pub tally_more : (n i : ℕ) (x : X) → i < length xs → x ≡ get_or xs i x → p x ≡ true → Tallied n i → Tallied (n + 1) (i + 1)
-  tally_more n i x h read e inv =
-      let here : count p (drop i xs) ≡ 1 + count p (drop (i + 1) xs) = rw e at (one_row i x h read) in
-      (omega (arith, inv.0), omega (arith, here, inv.1))
-
-  pub tally_same : (n i : ℕ) (x : X) → i < length xs → x ≡ get_or xs i x → p x ≡ false → Tallied n i → Tallied n (i + 1)
-  tally_same n i x h read e inv =
-      let here : count p (drop i xs) ≡ 0 + count p (drop (i + 1) xs) = rw e at (one_row i x h read) in
-      (omega (arith, inv.0), omega (arith, here, inv.1))
-
-  pub tally_all : (n i : ℕ) → length xs ≤ i → Tallied n i → n ≡ count p xs
-  tally_all n i h inv = omega (arith, at_drop_all (count p) xs i h, inv.1)
-
 -- what is counted of the rows is counted of what they stand for
-pub count_map : {X Y : Type 0} (f : X → Y) (p : Y → Bool) (xs : List X) → count p (map f xs) ≡ count (λ x. p (f x)) xs
-count_map f p [] = refl
-count_map f p (x ∷ xs) = ap (λ n. gate (p (f x)) 1 + n) (count_map f p xs)
+pub count_seen : {X Y : Type 0} (f : X → Y) (p : Y → Bool) (xs : List X) → count_by (λ x. p (f x)) xs ≡ count p (map f xs)
+count_seen f p xs = sym (is_count_by (λ l. count p (map f l)) (λ x. p (f x)) refl (λ x l. one (p (f x)) (count p (map f l))) xs)
+  where
+    one : (b : Bool) (n : ℕ) → gate b 1 + n ≡ cond b (1 + n) n
+    one true n = refl
+    one false n = omega arith
 
 -- no more rows pass than there are
 pub count_le : {X : Type 0} (p : X → Bool) (xs : List X) → count p xs ≤ length xs

@@ -1,6 +1,8 @@
 -- The two directions of a link of the table are the lanes of its two ends.
-use Rattle.std.proofs.Common.{◌≡◌, ℕ, zero, suc, ◌+◌, ◌*◌, ◌/◌, ◌%◌, ◌<◌, ◌≤◌, Bool, true, false, List, [], ◌∷◌, length, get_or, Some, sym, refl, ap, ◌∙◌, arith, ltb-true}
-use Rattle.std.proofs.lemmas.List.{get_or_default}
+use Rattle.std.proofs.Common.{◌≡◌, ℕ, zero, suc, ◌+◌, ◌*◌, ◌/◌, ◌%◌, ◌<◌, ◌≤◌, Bool, true, false, List, [], ◌∷◌, length, get_or, Some, sym, refl, ap, ◌∙◌, arith, ltb-true, length-take}
+use native.Mathlib.Nat.{min-le_left}
+use lib.ListN.{length-map}
+use Rattle.std.proofs.lemmas.List.{get_or_default, get_or-map}
 use Rattle.std.proofs.lemmas.Bool.Decides.{nat_tests}
 use Rattle.register.specs.Keys.{number_of, found}
 use Rattle.protocol.specs.World.{ends, no_end, back, lane, lane_out, same_end, end_at, from_end, to_end}
@@ -8,12 +10,12 @@ use Rattle.protocol.proofs.Homes.{length_ends}
 use Rattle.protocol.proofs.Places.{place_hit, same_end_true}
 use Rattle.protocol.specs.World as protocol
 use Rattle.tables.specs.declared.types.Link.{Link}
-use Rattle.tables.specs.declared.types.Links.{Links}
+use Rattle.tables.specs.declared.types.Rows.{Rows}
+use Rattle.tables.specs.Rows.{rows_of}
 use Rattle.tables.specs.View.{link_view, no_link, links_in, closed_in}
 use Rattle.tables.specs.declared.types.Route.{Route}
 use Rattle.tables.specs.Routes.{is_lane, Leads, LeadsOut}
 use Rattle.tables.proofs.Kept.{number_some}
-use Rattle.tables.proofs.Rows.{row_at, rows_few, length_rows}
 
 ends_even : (ls : List protocol.Link) (i : ℕ) → get_or (ends ls) (2 * i) no_end ≡ (get_or ls i protocol.no_link).end₀
 ends_even [] i = refl
@@ -35,26 +37,24 @@ back_even l d e = let even : (2 * l + d) % 2 ≡ 0 = omega arith in grind (arith
 back_odd : (l d : ℕ) → d ≡ 1 → back (lane l d) ≡ 2 * l
 back_odd l d e = let odd : (2 * l + d) % 2 ≡ 1 = omega arith in grind (arith, nat_tests)
 
-module _ (t : Links) (l d : ℕ) (x : Link) (h : l < t.count) (full : t.count ≤ length t.rows) where
-  abbrev row : Link
-  row = get_or t.rows l x
+module _ (t : Rows Link 16) (l d : ℕ) (row : Link) (h : l < length (rows_of t)) (read : row ≡ get_or (rows_of t) l row) where
+  few : length (rows_of t) ≤ 16
+  few = omega (arith, t.few, length-take t.count t.places, min-le_left t.count (length t.places))
 
-  in_list : l < length (links_in t)
-  in_list = omega (arith, h, length_rows link_view t.rows t.count full)
+  all : length (links_in t) ≡ length (rows_of t)
+  all = length-map (rows_of t) link_view
 
   seen_row : link_view row ≡ get_or (links_in t) l protocol.no_link
-  seen_row = row_at link_view t.rows t.count l x protocol.no_link in_list
+  seen_row = ap link_view read ∙ sym (get_or-map link_view (rows_of t) l row protocol.no_link h)
 
   closed_row : row.closed ≡ closed_in t l
-  closed_row =
-      let same = ap (λ (r : Link). r.closed) (get_or_default t.rows l x no_link (omega (arith, h, full))) in
-      same ∙ grind (arith, nat_tests)
+  closed_row = ap (λ (r : Link). r.closed) (read ∙ get_or_default (rows_of t) l row no_link h)
 
   pub leads_out : d ≡ 0 → Leads (links_in t) (closed_in t) l d (record { link = l; lane = 2 * l; near = row.first; far = row.second; kind = row.kind; closed = row.closed })
   leads_out e =
       let at : 2 * l ≡ lane l d = omega arith in
       let half : lane l d / 2 ≡ l = omega arith in
-      let inside = in_list in
+      let inside : l < length (links_in t) = omega (arith, h, all) in
       record {
         there = grind (arith, nat_tests);
         link = refl;
@@ -63,14 +63,14 @@ module _ (t : Links) (l d : ℕ) (x : Link) (h : l < t.count) (full : t.count �
         far = ap (λ (r : protocol.Link). r.end₁) seen_row ∙ sym (ends_odd (links_in t) l) ∙ ap (λ n. get_or (ends (links_in t)) n no_end) (sym (back_even l d e));
         kind = ap (λ (r : protocol.Link). r.kind) seen_row ∙ ap (λ n. (get_or (links_in t) n protocol.no_link).kind) (sym half);
         closed_is = closed_row;
-        low = omega (arith, h, t.few, e);
+        low = omega (arith, h, few, e);
       }
 
   pub leads_back : d ≡ 1 → Leads (links_in t) (closed_in t) l d (record { link = l; lane = 2 * l + 1; near = row.second; far = row.first; kind = row.kind; closed = row.closed })
   leads_back e =
       let at : 2 * l + 1 ≡ lane l d = omega arith in
       let half : lane l d / 2 ≡ l = omega arith in
-      let inside = in_list in
+      let inside : l < length (links_in t) = omega (arith, h, all) in
       record {
         there = grind (arith, nat_tests);
         link = refl;
@@ -79,14 +79,8 @@ module _ (t : Links) (l d : ℕ) (x : Link) (h : l < t.count) (full : t.count �
         far = ap (λ (r : protocol.Link). r.end₀) seen_row ∙ sym (ends_even (links_in t) l) ∙ ap (λ n. get_or (ends (links_in t)) n no_end) (sym (back_odd l d e));
         kind = ap (λ (r : protocol.Link). r.kind) seen_row ∙ ap (λ n. (get_or (links_in t) n protocol.no_link).kind) (sym half);
         closed_is = closed_row;
-        low = omega (arith, h, t.few, e);
+        low = omega (arith, h, few, e);
       }
-
--- past the links there is none
-pub not_there : (t : Links) (l d : ℕ) → t.count ≤ l → is_lane (links_in t) l d ≡ false
-not_there t l d h =
-    let few : length (links_in t) ≤ t.count = rows_few link_view t.rows t.count in
-    grind (arith, nat_tests)
 
 -- The lane that leads out by a channel, and the route that it is.
 module _ (ls : List protocol.Link) (closed : ℕ → Bool) (c k n : ℕ) (out : number_of (same_end (end_at c k)) (ends ls) ≡ Some n) where

@@ -1,6 +1,10 @@
 -- Where an end stands among the ends of all links.
-use Rattle.std.proofs.Common.{◌≡◌, ℕ, suc, ◌+◌, ◌-◌, ◌*◌, ◌<◌, ◌≤◌, Bool, true, false, cond, ltb, List, [], ◌∷◌, map, length, get_or, drop, Some, None, sym, refl, ap, ◌∙◌, arith, le-ltb, lt-ltb}
+use Rattle.std.proofs.Common.{◌≡◌, ℕ, zero, suc, ◌+◌, ◌-◌, ◌*◌, ◌<◌, ◌≤◌, Bool, true, false, cond, ltb, List, [], ◌∷◌, map, length, get_or, drop, Some, None, sym, refl, ap, ◌∙◌, arith, le-ltb, lt-ltb, ltb-true, ltb-false, zero-add, Option, MatchOption}
 use Rattle.std.proofs.lemmas.List.{at_drop_more, at_drop_all}
+use Rattle.std.proofs.lemmas.Bool.Decides.{nat_tests}
+use Rattle.std.specs.List.{find, range_with_len}
+use Rattle.std.specs.Option.{option_map}
+use Rattle.register.proofs.Places.{place_le}
 use Rattle.register.specs.Keys.{place, number_of}
 use Rattle.protocol.specs.World.{ends, numbers_from}
 use Rattle.protocol.specs.World as protocol
@@ -64,30 +68,45 @@ passed_all p ls i past within inv =
     let out : ltb (place p (ends_of ls)) (length (ends_of ls)) ≡ false = le-ltb (place p (ends_of ls)) (length (ends_of ls)) (omega (arith, end, inv, length_ends_of ls)) in
     sym (rw out refl)
 
--- The lowest number below n that passes a test, searched from k on.
-module _ (q : ℕ → Bool) (n k : ℕ) where
-  abbrev pub Searched : Type 0
-  Searched = place q (numbers_from k (n - k)) + k ≡ place q (numbers_from 0 n)
+-- a search among n numbers from k on finds the first that passes the test
+pub first_number :
+    (q : ℕ → Bool) (n k : ℕ) →
+    find q (range_with_len k n) ≡ cond (ltb (place q (numbers_from k n)) n) (Some (k + place q (numbers_from k n))) None
+first_number q zero k = refl
+first_number q (suc n) k =
+    let next : suc k ≡ k + 1 = omega arith in
+    let ih : find q (range_with_len (k + 1) n) ≡ cond (ltb (m (suc k)) n) (Some (k + 1 + m (suc k))) None =
+    rw next (first_number q n (k + 1))
+    in
+    go (q k) (m (suc k)) ih
+  where
+    m : ℕ → ℕ
+    m j = place q (numbers_from j n)
 
-  one_number : k < n → place q (numbers_from k (n - k)) ≡ cond (q k) 0 (suc (place q (numbers_from (k + 1) (n - (k + 1)))))
-  one_number h =
-      let e : n - k ≡ suc (n - (k + 1)) = omega arith in
-      let next : suc k ≡ k + 1 = omega arith in
-      ap (λ m. place q (numbers_from k m)) e ∙ ap (λ j. cond (q k) 0 (suc (place q (numbers_from j (n - (k + 1)))))) next
+    go :
+        (b : Bool) (m : ℕ) → find q (range_with_len (k + 1) n) ≡ cond (ltb m n) (Some (k + 1 + m)) None →
+        cond b (Some k) (find q (range_with_len (k + 1) n)) ≡ cond (ltb (cond b 0 (suc m)) (suc n)) (Some (k + cond b 0 (suc m))) None
+    go true m e = rw (lt-ltb 0 (suc n) (omega arith)) (ap Some (omega arith))
+    go false m e =
+        let passed : ltb m n ≡ ltb (suc m) (suc n) = grind (arith, nat_tests) in
+        let same : k + 1 + m ≡ k + suc m = omega arith in
+        e ∙ (λ i. cond (passed i) (Some (same i)) None)
 
-  pub lowest_here : k < n → Searched → q k ≡ true → k ≡ place q (numbers_from 0 n)
-  lowest_here h inv e =
-      let here : place q (numbers_from k (n - k)) ≡ 0 = rw e at (one_number h) in
-      omega (arith, here, inv)
+length_numbers : (n k : ℕ) → length (numbers_from k n) ≡ n
+length_numbers zero k = refl
+length_numbers (suc n) k = ap suc (length_numbers n (suc k))
 
-  lowest_not : k < n → q k ≡ false → place q (numbers_from k (n - k)) ≡ suc (place q (numbers_from (k + 1) (n - (k + 1))))
-  lowest_not h e = rw e at (one_number h)
+-- what a search among the numbers below n answers: the first that passes the test, or nothing where the place is n
+pub first_below :
+    (q : ℕ → Bool) (n : ℕ) (r : Option ℕ) → option_map (λ k. k) r ≡ find q (range_with_len 0 n) →
+    MatchOption r (place q (numbers_from 0 n) ≡ n) (λ c. (c ≡ place q (numbers_from 0 n)) × (c < n))
+first_below q n r e = go (ltb m n) refl r (e ∙ first_number q n 0)
+  where
+    m : ℕ
+    m = place q (numbers_from 0 n)
 
-  pub lowest_none : n ≤ k → k ≤ n → Searched → n ≡ place q (numbers_from 0 n)
-  lowest_none h l inv =
-      let z : n - k ≡ 0 = omega arith in
-      let none : place q (numbers_from k (n - k)) ≡ 0 = ap (λ m. place q (numbers_from k m)) z in
-      omega (arith, none, inv)
-
-pub searched_more : (q : ℕ → Bool) (n k : ℕ) → k < n → Searched q n k → q k ≡ false → Searched q n (k + 1)
-searched_more q n k h inv e = omega (arith, lowest_not q n k h e, inv)
+    go : (b : Bool) → ltb m n ≡ b → (r : Option ℕ) → option_map (λ k. k) r ≡ cond b (Some (0 + m)) None → MatchOption r (m ≡ n) (λ c. (c ≡ m) × (c < n))
+    go true t None e = let z : ◌≡◌ {A = ℕ} 0 1 = cc in absurd (omega arith)
+    go true t (Some c) e = let same : c ≡ 0 + m = cc in (omega (arith, same), omega (arith, same, ltb-true m n t))
+    go false t None e = omega (arith, ltb-false m n t, place_le q (numbers_from 0 n), length_numbers n 0)
+    go false t (Some c) e = let z : ◌≡◌ {A = ℕ} 0 1 = cc in absurd (omega arith)

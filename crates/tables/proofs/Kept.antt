@@ -1,9 +1,15 @@
 -- Keys of the code and what they stand for: a search finds the same number among both, and a key offered joins both.
-use Rattle.std.proofs.Common.{◌≡◌, ℕ, suc, ◌+◌, ◌≤◌, Bool, true, false, cond, ltb, List, [], ◌∷◌, ◌++◌, map, length, take, set, Some, None, Option, sym, refl, ap, ◌∙◌, arith, ltb-true}
+use Rattle.std.proofs.Common.{◌≡◌, ℕ, suc, ◌+◌, ◌≤◌, Bool, true, false, cond, ltb, List, [], ◌∷◌, ◌++◌, map, length, take, set, Some, None, Option, sym, refl, ap, ◌∙◌, arith, ltb-true, ltb-false, lt-ltb, le-ltb, leb-true, leb-false, length-take-le, not, leb, ◌&&◌, ◌||◌}
+use Rattle.std.specs.Option.{option_or}
+use Rattle.std.specs.Bool.{then_some}
+use Rattle.register.proofs.Places.{place_le}
+use Rattle.std.specs.List.{position, position_or_len, list_any}
+use Rattle.std.proofs.lemmas.List.{map_push, take_more_set}
+use Rattle.std.proofs.lemmas.Bool.Decides.{nat_tests}
+use Rattle.std.proofs.lemmas.List.Recursion.{is_position_or_len}
 use lib.ListN.{length-map}
 use Rattle.register.specs.Keys.{place, found, number_of, kept, kept_count, kept_number}
 use Rattle.tables.specs.Registers.{joined}
-use Rattle.tables.proofs.Rows.{row_pushed, length_rows}
 
 place_map : {X Y : Type 0} (f : X → Y) (p : Y → Bool) (xs : List X) → place p (map f xs) ≡ place (λ x. p (f x)) xs
 place_map f p [] = refl
@@ -24,44 +30,64 @@ number_some p xs n e = go (found p xs) refl e
     go true t f = (t, cc)
     go false t f = let z : ◌≡◌ {A = ℕ} 0 1 = cc in absurd (omega arith)
 
--- What a key offered to a table of `room` places, the first n of them taken, is answered, and what the keys stand for then.
-module _ {X Y : Type 0} (f : X → Y) (p : Y → Bool) (ks : List X) (n room : ℕ) (full : length ks ≡ room) (within : n ≤ length ks) where
-  -- its number among what the keys stand for
-  abbrev seen_number : Option ℕ
-  seen_number = number_of p (map f (take n ks))
+-- the library's word for the same
+place_is : {X : Type 0} (p : X → Bool) (xs : List X) → place p xs ≡ position_or_len p xs
+place_is p = is_position_or_len (place p) p refl (λ x xs. ap (cond (p x) 0) (omega arith))
 
-  joins : (k : X) (o : Option ℕ) → map f (take (kept_count (length ks) n o) (kept ks n k o)) ≡ joined room (f k) (map f (take n ks)) o
+-- a position among the rows is a number among what they stand for
+pub position_seen : {X Y : Type 0} (f : X → Y) (p : Y → Bool) (xs : List X) → position (λ x. p (f x)) xs ≡ number_of p (map f xs)
+position_seen f p xs =
+    let at = place_is (λ x. p (f x)) xs in
+    (λ i. cond (ltb (sym at i) (length xs)) (Some (sym at i)) None) ∙ sym (number_map f p xs)
+
+-- some row passes where some of what they stand for is found
+pub any_seen : {X Y : Type 0} (f : X → Y) (p : Y → Bool) (xs : List X) → list_any (λ x. p (f x)) xs ≡ found p (map f xs)
+any_seen f p [] = refl
+any_seen f p (x ∷ xs) = go (p (f x)) (any_seen f p xs)
+  where
+    go : (b : Bool) → list_any (λ x. p (f x)) xs ≡ found p (map f xs) → (b || list_any (λ x. p (f x)) xs) ≡ ltb (cond b 0 (suc (place p (map f xs)))) (suc (length (map f xs)))
+    go true e = sym (lt-ltb 0 (suc (length (map f xs))) (omega arith))
+    go false e = e ∙ grind (arith, nat_tests)
+
+-- What a key offered to a table of `room` places, the first n of them taken, is answered, and which rows there are then.
+module _ {X : Type 0} (ks : List X) (n room : ℕ) (full : length ks ≡ room) (within : n ≤ length ks) where
+  pub joins : (k : X) (o : Option ℕ) → take (kept_count (length ks) n o) (kept ks n k o) ≡ joined room k (take n ks) o
   joins k (Some i) = refl
   joins k None =
-      let at = sym (length_rows f ks n within) in
-      go (ltb n (length ks)) refl ∙ (λ i. cond (ltb (at i) (full i)) (map f (take n ks) ++ f k ∷ []) (map f (take n ks)))
+      let at = length-take-le n ks within in
+      go (ltb n (length ks)) refl ∙ (λ i. cond (ltb (sym at i) (full i)) (take n ks ++ k ∷ []) (take n ks))
     where
       go :
           (b : Bool) → ltb n (length ks) ≡ b →
-          map f (take (cond b (n + 1) n) (cond b (set ks n k) ks)) ≡ cond b (map f (take n ks) ++ f k ∷ []) (map f (take n ks))
-      go true t = row_pushed f ks n k (ltb-true n (length ks) t)
+          take (cond b (n + 1) n) (cond b (set ks n k) ks) ≡ cond b (take n ks ++ k ∷ []) (take n ks)
+      go true t = take_more_set ks n k (ltb-true n (length ks) t)
       go false t = refl
 
-  pub offer_answered :
-      (lent : List X) (taken : ℕ) (r : Option ℕ) → lent ≡ ks → taken ≡ n →
-      r ≡ kept_number (length lent) taken (number_of (λ x. p (f x)) (take taken lent)) →
-      r ≡ kept_number room (length (map f (take n ks))) seen_number
-  offer_answered lent taken r same at e =
-      let first = length_rows f ks n within in
-      let seen = number_map f p (take n ks) in
-      e
-      ∙ (λ i. kept_number (length (same i)) (at i) (number_of (λ x. p (f x)) (take (at i) (same i))))
-      ∙ (λ i. kept_number (full i) (sym first i) (sym seen i))
+  pub offer_answered : (o : Option ℕ) → kept_number (length ks) n o ≡ kept_number room (length (take n ks)) o
+  offer_answered o = λ i. kept_number (full i) (sym (length-take-le n ks within) i) o
 
-  pub offer_kept :
-      (lent last : List X) (taken count : ℕ) (k : X) → lent ≡ ks → taken ≡ n →
-      last ≡ kept lent taken k (number_of (λ x. p (f x)) (take taken lent)) →
-      count ≡ kept_count (length lent) taken (number_of (λ x. p (f x)) (take taken lent)) →
-      map f (take count last) ≡ joined room (f k) (map f (take n ks)) seen_number
-  offer_kept lent last taken count k same at e h =
-      (λ i. map f (take (h i) (e i)))
-      ∙ (λ i.
-      let o = number_of (λ x. p (f x)) (take (at i) (same i)) in
-      map f (take (kept_count (length (same i)) (at i) o) (kept (same i) (at i) k o)))
-      ∙ joins k (number_of (λ x. p (f x)) (take n ks))
-      ∙ ap (joined room (f k) (map f (take n ks))) (sym (number_map f p (take n ks)))
+-- What the keys stand for after one was offered.
+pub joined_seen : {X Y : Type 0} (f : X → Y) (room : ℕ) (k : X) (xs : List X) (o : Option ℕ) → map f (joined room k xs o) ≡ joined room (f k) (map f xs) o
+joined_seen f room k xs (Some i) = refl
+joined_seen f room k xs None = go (ltb (length xs) room) ∙ (λ i. cond (ltb (sym (length-map xs f) i) room) (map f xs ++ f k ∷ []) (map f xs))
+  where
+    go : (b : Bool) → map f (cond b (xs ++ k ∷ []) xs) ≡ cond b (map f xs ++ f k ∷ []) (map f xs)
+    go true = map_push f xs k
+    go false = refl
+
+-- the number of a key, or else the next one where there is room for it
+pub number_or_next :
+    {X : Type 0} (p : X → Bool) (xs : List X) (room : ℕ) →
+    option_or (number_of p xs) (then_some (ltb (length xs) room) (length xs)) ≡ cond (not (found p xs) && leb room (length xs)) None (Some (place p xs))
+number_or_next p xs room = go (found p xs) refl
+  where
+    n : ℕ
+    n = length xs
+
+    next : (b : Bool) → leb room n ≡ b → place p xs ≡ n → then_some (ltb n room) n ≡ cond b None (Some (place p xs))
+    next true t e = rw (le-ltb n room (leb-true room n t)) refl
+    next false t e = rw (lt-ltb n room (leb-false room n t)) (ap Some (sym e))
+
+    go : (b : Bool) → found p xs ≡ b → option_or (cond b (Some (place p xs)) None) (then_some (ltb n room) n) ≡ cond (not b && leb room n) None (Some (place p xs))
+    go true t = refl
+    go false t = next (leb room n) refl (omega (arith, ltb-false (place p xs) n t, place_le p xs))

@@ -2,5 +2,5 @@ pub mod Counts
 pub mod Directions
 pub mod Ends
 pub mod Kept
-pub mod Rows
+pub mod Taken
 pub mod Walks

@@ -1,3 +1,4 @@
+pub mod Rows
 pub mod Packets
 pub mod Registers
 pub mod Routes

@@ -11,10 +11,10 @@ use Rattle.tables.specs.declared.types.Link.{Link}
 use Rattle.tables.specs.declared.types.Standing.{Standing}
 use Rattle.tables.specs.declared.types.Standing.TheVariants.{Stands, Ended}
 use Rattle.tables.specs.declared.types.Packet.{Packet}
-use Rattle.tables.specs.declared.types.Denominations.{Denominations}
-use Rattle.tables.specs.declared.types.Tokens.{Tokens}
-use Rattle.tables.specs.declared.types.Links.{Links}
-use Rattle.tables.specs.declared.types.Packets.{Packets}
+use Rattle.denom.specs.declared.types.Denomination.{Denomination}
+use Rattle.denom.specs.declared.types.TokenId.{TokenId}
+use Rattle.tables.specs.declared.types.Rows.{Rows}
+use Rattle.tables.specs.Rows.{rows_of}
 
 abbrev pub end_view : End → protocol.End
 end_view e = record { chain = e.chain; channel = e.channel }
@@ -40,22 +40,22 @@ packet_view p =
     }
 
 -- a chain's register
-abbrev pub denoms_in : Denominations → List Denom
-denoms_in r = map denom_view (take r.count r.keys)
+abbrev pub denoms_in : Rows Denomination 32 → List Denom
+denoms_in r = map denom_view (rows_of r)
 
 -- what is read where there is no such chain
-abbrev pub no_denominations : Denominations
-no_denominations = record { keys = []; count = 0; few = lit≤ tt }
+abbrev pub no_denominations : Rows Denomination 32
+no_denominations = record { places = []; count = 0; few = lit≤ tt }
 
 -- the register of chain c
-abbrev pub denoms_of : List Denominations → ℕ → List Denom
+abbrev pub denoms_of : List (Rows Denomination 32) → ℕ → List Denom
 denoms_of rows c = denoms_in (slice_index_or rows c no_denominations)
 
-abbrev pub tokens_in : Tokens → List Token
-tokens_in t = map token_view (take t.count t.keys)
+abbrev pub tokens_in : Rows TokenId 64 → List Token
+tokens_in t = map token_view (rows_of t)
 
-abbrev pub links_in : Links → List protocol.Link
-links_in l = map link_view (take l.count l.rows)
+abbrev pub links_in : Rows Link 16 → List protocol.Link
+links_in l = map link_view (rows_of l)
 
 -- what is read where there is no end
 abbrev pub no_end : End
@@ -66,8 +66,8 @@ abbrev pub no_link : Link
 no_link = record { first = no_end; second = no_end; kind = Free; closed = false }
 
 -- whether link i is there and closed
-abbrev pub closed_in : Links → ℕ → Bool
-closed_in l i = cond (nat_lt i l.count) (get_or l.rows i no_link).closed false
+abbrev pub closed_in : Rows Link 16 → ℕ → Bool
+closed_in l i = (slice_index_or (rows_of l) i no_link).closed
 
-abbrev pub packets_in : Packets → List protocol.Packet
-packets_in p = map packet_view (take p.count p.rows)
+abbrev pub packets_in : Rows Packet 512 → List protocol.Packet
+packets_in p = map packet_view (rows_of p)

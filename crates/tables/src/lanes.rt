@@ -4,17 +4,14 @@ ghost use Rattle.tables.specs.Routes.{is_lane, Leads, LeadsOut};
 ghost use Rattle.tables.specs.View.{links_in, closed_in};
 
 use super::links::lane_out;
-use super::types::{Links, Route, Tables};
+use super::types::{Link, Links, Route, Tables};
 
 impl Links {
     /// Direction 0 or 1 of a link, if it is there.
     pub fn route(&self, link: usize, direction: usize) -> Option<Route>
         ensures { MatchOption result (is_lane (links_in self.now) link direction ≡ false) (λ q. Leads (links_in self.now) (closed_in self.now) link direction q) }
     {
-        if link >= self.count {
-            return None;
-        }
-        let row = self.rows[link];
+        let row = self.as_slice().get(link)?;
         match direction {
             0 => Some(Route {
                 link,
@@ -40,9 +37,7 @@ impl Links {
     pub fn route_out(&self, chain: usize, channel: usize) -> Option<Route>
         ensures { MatchOption result (in_use (links_in self.now) chain channel ≡ false) (λ q. LeadsOut (links_in self.now) (closed_in self.now) chain channel q) }
     {
-        let Some(lane) = lane_out(self.as_slice(), chain, channel) else {
-            return None;
-        };
+        let lane = lane_out(self.as_slice(), chain, channel)?;
         self.route(lane / 2, lane % 2)
     }
 
@@ -52,18 +47,16 @@ impl Links {
         ensures links { links_in self.new ≡ links_in self.old }
         ensures closed { (i : ℕ) → closed_in self.new i ≡ (closed_in self.old i || i == link) }
     {
-        let mut row = self.rows[link];
-        row.closed = true;
-        self.rows[link] = row;
+        let row = self.at(link);
+        self.put(link, Link { closed: true, ..row });
     }
 }
 
 impl Tables {
     /// Whether a timeout height is not 0 nor above a chain's height.
     pub fn has_passed(&self, chain: usize, timeout: u64) -> bool
-        requires { chain < 8 }
         ensures { result ≡ (not (timeout == 0) && nat_le timeout (slice_index self.now.heights chain)) }
     {
-        timeout != 0 && timeout <= self.heights[chain]
+        timeout != 0 && self.heights.get(chain).is_some_and(|height| timeout <= *height)
     }
 }

@@ -5,13 +5,13 @@ mod denominations;
 mod lanes;
 mod links;
 mod packets;
+mod rows;
 mod tables;
-mod tokens;
 mod types;
 mod walk;
 
 pub use links::lowest_unused;
 pub use types::{
-    Denominations, Effect, End, Event, Link, Links, Packet, Packets, Route, Standing, Tables,
+    Denominations, Effect, End, Event, Link, Links, Packet, Packets, Route, Rows, Standing, Tables,
     Tokens,
 };

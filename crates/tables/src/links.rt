@@ -1,9 +1,10 @@
-ghost use Rattle.std.specs.Prelude.{◌≡◌, ℕ, ◌+◌, ◌<◌, false, [], ◌∷◌, ◌++◌, map, length};
+ghost use Rattle.std.specs.Prelude.{◌≡◌, ◌<◌, not, map, MatchOption};
 ghost use Rattle.register.specs.Keys.{number_of};
-ghost use Rattle.protocol.specs.World.{same_end, end_at, ends, lowest_unused as lowest};
-ghost use Rattle.tables.specs.View.{end_view, link_view, links_in, closed_in};
+ghost use Rattle.protocol.specs.House.{channels_most};
+ghost use Rattle.protocol.specs.World.{same_end, end_at, ends, in_use, lowest_unused as lowest};
+ghost use Rattle.tables.specs.View.{end_view, link_view};
 
-use super::types::{End, Link, Links};
+use super::types::{End, Link};
 use protocol::CHANNELS;
 
 impl End {
@@ -11,7 +12,7 @@ impl End {
     pub(crate) fn is(&self, chain: usize, channel: usize) -> bool
         ensures { result ≡ same_end (end_at chain channel) (end_view self.now) }
     {
-        chain == self.chain && channel == self.channel
+        (self.chain, self.channel) == (chain, channel)
     }
 }
 
@@ -30,42 +31,16 @@ pub(crate) fn lane_out(links: &[Link], chain: usize, channel: usize) -> Option<u
     None
 }
 
-/// A chain's lowest unused channel; 8 where all are used.
-pub fn lowest_unused(links: &[Link], chain: usize) -> usize
-    ensures { result ≡ lowest (map link_view links.now) chain }
+// Whether a channel of a chain is not in use.
+fn is_unused(links: &[Link], chain: usize, channel: usize) -> bool
+    ensures { result ≡ not (in_use (map link_view links.now) chain channel) }
 {
-    for channel in 0..CHANNELS {
-        if lane_out(links, chain, channel).is_none() {
-            return channel;
-        }
-    }
-    CHANNELS
+    lane_out(links, chain, channel).is_none()
 }
 
-impl Links {
-    /// The links in the order in which they were opened.
-    pub fn as_slice(&self) -> &[Link]
-        ensures { map link_view result.now ≡ links_in self.now }
-    {
-        &self.rows[0..self.count]
-    }
-
-    /// How many there are.
-    pub fn len(&self) -> usize
-        ensures { result ≡ length (links_in self.now) }
-    {
-        self.as_slice().len()
-    }
-
-    /// One link more, which is not closed.
-    pub fn push(&mut self, link: Link)
-        requires room { length (links_in self.old) < 16 }
-        requires opened { link.closed ≡ false }
-        ensures links { links_in self.new ≡ links_in self.old ++ link_view link ∷ [] }
-        ensures closed { (i : ℕ) → closed_in self.new i ≡ closed_in self.old i }
-    {
-        let at = self.count;
-        self.rows[at] = link;
-        self.count = at + 1;
-    }
+/// A chain's lowest unused channel, or nothing where all are used.
+pub fn lowest_unused(links: &[Link], chain: usize) -> Option<usize>
+    ensures { MatchOption result (lowest (map link_view links.now) chain ≡ channels_most) (λ c. (c ≡ lowest (map link_view links.now) chain) × (c < channels_most)) }
+{
+    (0..CHANNELS).find(|channel| is_unused(links, chain, *channel))
 }

@@ -1,4 +1,4 @@
-ghost use Rattle.std.specs.Prelude.{◌≡◌, ◌+◌, ◌<◌, [], ◌∷◌, ◌++◌, map, length, nat_eq, slice_index_or, slice_set};
+ghost use Rattle.std.specs.Prelude.{◌≡◌, ◌<◌, length, nat_eq, slice_index_or, slice_set};
 ghost use Rattle.sums.specs.Sums.{count};
 ghost use Rattle.register.specs.Keys.{number_of, found};
 ghost use Rattle.protocol.specs.Calls.{no_packet, no_more_standing};
@@ -20,10 +20,7 @@ impl Packet {
     fn stands_below(&self, lane: usize, sequence: usize) -> bool
         ensures { result ≡ stands_below lane sequence (packet_view self.now) }
     {
-        match self.standing {
-            Standing::Stands => self.lane == lane && self.sequence < sequence,
-            Standing::Ended => false,
-        }
+        self.standing == Standing::Stands && self.lane == lane && self.sequence < sequence
     }
 
     /// What an event comes to.
@@ -60,95 +57,33 @@ impl Packet {
     }
 }
 
-// The place of the packet of a lane and a sequence.
-fn find_packet(packets: &[Packet], lane: usize, sequence: usize) -> Option<usize>
-    ensures { result ≡ number_of (λ p. is_packet lane sequence (packet_view p)) packets.now }
-{
-    for (i, packet) in packets.iter().enumerate() {
-        if packet.is(lane, sequence) {
-            return Some(i);
-        }
-    }
-    None
-}
-
-// The place of the first packet of a lane that stands below a sequence.
-fn find_below(packets: &[Packet], lane: usize, sequence: usize) -> Option<usize>
-    ensures { result ≡ number_of (λ p. stands_below lane sequence (packet_view p)) packets.now }
-{
-    for (i, packet) in packets.iter().enumerate() {
-        if packet.stands_below(lane, sequence) {
-            return Some(i);
-        }
-    }
-    None
-}
-
-// How many packets were sent on a lane.
-fn count_on(packets: &[Packet], lane: usize) -> usize
-    ensures { result ≡ count (λ p. nat_eq p.lane lane) packets.now }
-{
-    let mut sent = 0;
-    for packet in packets {
-        if packet.lane == lane {
-            sent += 1;
-        }
-    }
-    sent
-}
-
 impl Packets {
-    /// The packets in the order in which they were sent.
-    pub fn as_slice(&self) -> &[Packet]
-        ensures { map packet_view result.now ≡ packets_in self.now }
-    {
-        &self.rows[0..self.count]
-    }
-
-    /// How many there are.
-    pub fn len(&self) -> usize
-        ensures { result ≡ length (packets_in self.now) }
-    {
-        self.as_slice().len()
-    }
-
     /// The place of the packet of a lane and a sequence, or nothing.
     pub fn find(&self, lane: usize, sequence: usize) -> Option<usize>
         ensures { result ≡ number_of (is_packet lane sequence) (packets_in self.now) }
     {
-        find_packet(self.as_slice(), lane, sequence)
-    }
-
-    /// The packet at a place.
-    pub fn at(&self, place: usize) -> Packet
-        requires { place < length (packets_in self.now) }
-        ensures { packet_view result ≡ slice_index_or (packets_in self.now) place no_packet }
-    {
-        self.rows[place]
+        self.as_slice()
+            .iter()
+            .position(|packet| packet.is(lane, sequence))
     }
 
     /// Whether a packet of a lane stands below a sequence.
     pub fn lower_stands(&self, lane: usize, sequence: usize) -> bool
         ensures { result ≡ found (stands_below lane sequence) (packets_in self.now) }
     {
-        find_below(self.as_slice(), lane, sequence).is_some()
+        self.as_slice()
+            .iter()
+            .any(|packet| packet.stands_below(lane, sequence))
     }
 
     /// How many were sent on a lane.
     pub fn sent_on(&self, lane: usize) -> usize
         ensures { result ≡ count (λ p. nat_eq p.lane lane) (packets_in self.now) }
     {
-        count_on(self.as_slice(), lane)
-    }
-
-    /// Records a packet behind those sent before.
-    pub fn push(&mut self, packet: Packet)
-        requires { length (packets_in self.old) < 512 }
-        ensures { packets_in self.new ≡ packets_in self.old ++ packet_view packet ∷ [] }
-    {
-        let at = self.count;
-        self.rows[at] = packet;
-        self.count = at + 1;
+        self.as_slice()
+            .iter()
+            .filter(|packet| packet.lane == lane)
+            .count()
     }
 
     /// Ends the standing of the packet at a place.
@@ -156,8 +91,8 @@ impl Packets {
         requires { place < length (packets_in self.old) }
         ensures { packets_in self.new ≡ slice_set (packets_in self.old) place (no_more_standing (slice_index_or (packets_in self.old) place no_packet)) }
     {
-        let mut packet = self.rows[place];
+        let mut packet = self.at(place);
         packet.standing = Standing::Ended;
-        self.rows[place] = packet;
+        self.put(place, packet);
     }
 }

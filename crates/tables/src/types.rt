@@ -1,7 +1,8 @@
 ghost use Rattle.std.specs.Prelude.{◌<◌, ◌≤◌};
 
 use denom::{Denomination, TokenId};
-use protocol::LinkKind;
+use protocol::{CHAINS, DENOMINATIONS, LINKS, LinkKind, PACKETS, TOKENS};
+use std::alloc::AllocError;
 
 /// An end of a link: a channel 0 to 7 of a chain 0 to 7.
 #[derive(Clone, Copy)]
@@ -71,44 +72,39 @@ pub struct Route {
     pub closed: bool,
 }
 
-/// A chain's denominations in order of registration.
-#[derive(Clone, Copy)]
-pub struct Denominations {
-    pub(crate) keys: [Denomination; 32],
+/// Rows in order of arrival, in places of which the first are taken.
+pub struct Rows<T: Copy, const N: usize> {
+    pub(crate) places: [T; N],
     pub(crate) count: usize,
-    ghost few: { count ≤ 32 },
+    ghost few: { count ≤ N },
 }
+
+impl<T: Copy, const N: usize> Copy for Rows<T, N> {}
+
+impl<T: Copy, const N: usize> Clone for Rows<T, N> {
+    fn clone(&self) -> Result<Rows<T, N>, AllocError> {
+        Ok(*self)
+    }
+}
+
+/// A chain's denominations in order of registration.
+pub type Denominations = Rows<Denomination, DENOMINATIONS>;
 
 /// The world's tokens in order of registration.
-#[derive(Clone, Copy)]
-pub struct Tokens {
-    pub(crate) keys: [TokenId; 64],
-    pub(crate) count: usize,
-    ghost few: { count ≤ 64 },
-}
+pub type Tokens = Rows<TokenId, TOKENS>;
 
 /// The links in the order in which they were opened.
-#[derive(Clone, Copy)]
-pub struct Links {
-    pub(crate) rows: [Link; 16],
-    pub(crate) count: usize,
-    ghost few: { count ≤ 16 },
-}
+pub type Links = Rows<Link, LINKS>;
 
 /// The packets in the order in which they were sent.
-#[derive(Clone, Copy)]
-pub struct Packets {
-    pub(crate) rows: [Packet; 512],
-    pub(crate) count: usize,
-    ghost few: { count ≤ 512 },
-}
+pub type Packets = Rows<Packet, PACKETS>;
 
 /// What a world keeps beside its ledger and its books.
 #[derive(Clone, Copy)]
 pub struct Tables {
-    pub denominations: [Denominations; 8],
+    pub denominations: [Denominations; CHAINS],
     pub tokens: Tokens,
     pub links: Links,
     pub packets: Packets,
-    pub heights: [u64; 8],
+    pub heights: [u64; CHAINS],
 }

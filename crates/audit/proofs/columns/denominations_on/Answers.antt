@@ -3,7 +3,7 @@ use lib.ListN.{length-map}
 use Rattle.std.proofs.lemmas.List.{get_or_default, get_or_past}
 use Rattle.denom.specs.Views.{denom_view}
 use Rattle.tables.specs.View.{denoms_in, no_denominations}
-use Rattle.tables.proofs.Rows.{few_denoms}
+use Rattle.tables.proofs.Taken.{few_denoms}
 use Rattle.audit.proofs.columns.denominations_on.Goals as goal
 
 pub returns-then-chain-rows : goal.returns-then-chain-rows

@@ -1,7 +1,7 @@
 use Rattle.std.proofs.Common.{◌≡◌, ℕ, suc, ◌+◌, ◌<◌, length, sym, ap, ◌∙◌, arith}
 use Rattle.protocol.specs.Audit.{gathered}
 use Rattle.protocol.specs.World.{numbers_from}
-use Rattle.tables.proofs.Rows.{few_denoms}
+use Rattle.tables.proofs.Taken.{few_denoms}
 use Rattle.world.specs.View.{view}
 use Rattle.audit.specs.Slots.{at_place, slots}
 use Rattle.audit.proofs.Gathered.{passed_filled, passed_empty, reached, no_more}

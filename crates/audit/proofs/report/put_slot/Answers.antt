@@ -1,7 +1,7 @@
 use Rattle.std.proofs.Common.{◌≡◌, ℕ, ◌-◌, take, ap, ◌∙◌, arith}
 use Rattle.std.proofs.lemmas.Result.{IfOk-weaker}
 use Rattle.figures.proofs.Parts.{laid_fits, laid_front}
-use Rattle.tables.proofs.Rows.{few_denoms}
+use Rattle.tables.proofs.Taken.{few_denoms}
 use Rattle.world.specs.View.{view}
 use Rattle.audit.specs.Slots.{has_line, line_in}
 use Rattle.audit.proofs.Gathered.{slot_handed}

@@ -1,5 +1,5 @@
 use Rattle.std.proofs.Common.{◌≡◌, arith, rules}
-use Rattle.tables.proofs.Rows.{few_denoms}
+use Rattle.tables.proofs.Taken.{few_denoms}
 use Rattle.world.specs.View.{view}
 use Rattle.audit.specs.Slots.{slots}
 use Rattle.audit.proofs.AddUp.{adds_up}

@@ -5,7 +5,7 @@ use Rattle.denom.specs.Text.{read_from, only_symbol}
 use Rattle.denom.specs.Views.{symbol_answer, hops_after, count_after}
 use Rattle.std.proofs.lemmas.List.{length-set}
 use Rattle.denom.proofs.Bounds.{channels_set}
-use Rattle.denom.specs.Steps.{one_hop, no_hop, no_hops, ok_step, err_step, symbol_here, symbol_none}
+use Rattle.denom.proofs.Steps.{one_hop, no_hop, no_hops, ok_step, err_step, symbol_here, symbol_none}
 use Rattle.denom.proofs.reader.+read_from.Goals as goal
 use Rattle.denom.proofs.reader.+read_from.Goals.{then-depth-lt-MOST_HOPS+in_default, else-depth-lt-MOST_HOPS}
 

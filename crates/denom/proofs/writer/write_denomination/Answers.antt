@@ -1,9 +1,8 @@
-use Rattle.std.proofs.Common.{◌≡◌, ℕ, ◌+◌, ◌≤◌, true, ltb, List, length, take, sym, ap, ◌∙◌, subst, arith, length-append, length-take}
-use Rattle.figures.specs.Figures.{into}
+use Rattle.std.proofs.Common.{◌≡◌, ℕ, ◌≤◌, true, ltb, List, length, take, sym, ap, subst, arith, length-take}
+use Rattle.figures.specs.Lines.{Appends}
 use Rattle.denom.specs.Text.{each, trace_text}
 use Rattle.denom.specs.Views.{hops_of, symbol_of}
 use Rattle.denom.proofs.Bounds.{channels_each}
-use Rattle.figures.proofs.Parts.{piece}
 use Rattle.denom.proofs.Joins.{length_trace}
 use Rattle.denom.proofs.writer.write_denomination.Goals as goal
 
@@ -32,29 +31,15 @@ write_trace-requires c =
 pub returns : goal.returns
 returns c =
     let d = c.args.denomination.now in
-    let line = c.args.line.now in
-    let told = c.write_trace.ensures in
-    let whole : trace_text c.as_slice.result.now c.as_slice-2.result.now ≡ trace_text (hops_of d.hops) (symbol_of d.symbol) =
-    λ i. trace_text (c.as_slice.ensures i) (c.as_slice-2.ensures i)
-    in
-    let at = told.at ∙ ap (λ l. line.at + length l) whole in
+    let P : List ℕ → Type 0 = λ text. Appends text c.args.line.now c.write_trace.new.line in
     record {
       short = omega (
         arith,
-        at,
         length_trace (hops_of d.hops) (symbol_of d.symbol),
         few d.hops.count d.hops.at,
         few d.symbol.len d.symbol.bytes,
         d.hops.few,
         d.symbol.few,
       );
-      at = at;
-      room = told.room;
-      buffer = told.buffer ∙ ap (λ l. into l line.at line.buffer.now) whole;
-      holds = λ xs before h.
-          let text = trace_text (hops_of d.hops) (symbol_of d.symbol) in (
-            at ∙ ap (λ n. n + length text) h.0 ∙ sym (length-append xs text),
-            told.buffer ∙ ap (λ l. into l line.at line.buffer.now) whole ∙ piece xs text before _ _ h.0 h.1,
-          );
-      lender = told.lender;
+      text = subst P (λ i. trace_text (c.as_slice.ensures i) (c.as_slice-2.ensures i)) c.write_trace.ensures;
     }

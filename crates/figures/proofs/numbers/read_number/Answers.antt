@@ -1,38 +1,49 @@
-use Rattle.std.proofs.Common.{◌+◌, ◌-◌, ◌*◌, ◌<◌, length, get_or, take, sym, ap, ◌∙◌, subst, arith, take_all, true-eqb, false-eqb}
+use Rattle.std.proofs.Common.{◌+◌, ◌<◌, length, get_or, ap, ◌∙◌, subst, arith, take_all, true-eqb, false-eqb}
 use Rattle.std.specs.Str.Parse.{AllDigits, digits_value}
 use Rattle.std.proofs.lemmas.Int.Digits.{digits_value_more, digits_more}
 use Rattle.figures.proofs.Numerals.{digit_value, none_read, none_empty, none_led, none_digit, none_great, some_number, leads, leads_not}
 use Rattle.figures.proofs.numbers.read_number.Goals as goal
-use Rattle.figures.proofs.numbers.read_number.Goals.{then-b-lt48-via-then-b-lt48, then-b-lt48-via-else-b-lt48+then-b-gt57}
+use Rattle.figures.proofs.numbers.read_number.Goals.{then-is_empty-via-then-is_empty, then-is_empty-via-else-is_empty+then-has_leading_zero}
 
 pub returns-then-is_empty : goal.returns-then-is_empty
-returns-then-is_empty c = none_read _ (none_empty c.args.text.now (true-eqb _ 0 c.if-is_empty.ensures))
+returns-then-is_empty c =
+    none_read _
+    (elim c.then-is_empty.branch [
+      | then-is_empty-via-then-is_empty w ↦ none_empty c.args.text.now (true-eqb _ 0 w.if-is_empty.ensures)
+      | then-is_empty-via-else-is_empty+then-has_leading_zero w ↦ let led = leads c.args.text.now w.if-has_leading_zero.ensures in none_led c.args.text.now led.0 led.1
+    ])
 
-pub returns-then-has_leading_zero : goal.returns-then-has_leading_zero
-returns-then-has_leading_zero c =
-    let led = leads c.args.text.now c.if-has_leading_zero.ensures in
-    none_read _ (none_led c.args.text.now led.0 led.1)
+pub returns-then-not-is_ascii_digit : goal.returns-then-not-is_ascii_digit
+returns-then-not-is_ascii_digit c =
+    none_read _ (none_digit c.args.text.now c.loop-b.b-index c.loop-b-test.true (λ d. omega (arith, d, c.if-not-is_ascii_digit.ensures.cases)))
 
-pub returns-then-b-lt48 : goal.returns-then-b-lt48
-returns-then-b-lt48 c =
-    none_read _ (none_digit c.args.text.now c.loop-b.b-index c.loop-b-test.true
-    (elim c.then-b-lt48.branch [ then-b-lt48-via-then-b-lt48 w ↦ λ d. omega (arith, d.0, w.if-b-lt48.true) | then-b-lt48-via-else-b-lt48+then-b-gt57 w ↦ λ d. omega (arith, d.1, w.if-b-gt57.true) ]))
-
-pub returns-then-n-d : goal.returns-then-n-d
-returns-then-n-d c =
+pub returns-in_err-checked_mul : goal.returns-in_err-checked_mul
+returns-in_err-checked_mul c =
     let text = c.args.text.now in
     let i = c.loop-b.b-index in
-    let dv = digit_value (get_or text i 0) c.if-b-lt48.false c.if-b-gt57.false in
-    none_read _ (none_great text (i + 1) (omega (arith, digits_value_more 10 text i c.loop-b-test.true, dv, c.loop-b.invariant.2, c.if-n-d.true)))
+    let over = rw c.in_err-checked_mul.was at c.checked_mul.ensures in
+    c.from_residual.ensures ∙ none_read _ (none_great text (i + 1) (omega (arith, digits_value_more 10 text i c.loop-b-test.true, c.loop-b.invariant.2, over)))
+
+pub returns-in_err-n : goal.returns-in_err-n
+returns-in_err-n c =
+    let text = c.args.text.now in
+    let i = c.loop-b.b-index in
+    let dv = digit_value (get_or text i 0) c.if-not-is_ascii_digit.ensures.cases.0 c.if-not-is_ascii_digit.ensures.cases.1 in
+    let ten = rw c.in_ok-checked_mul.was at c.checked_mul.ensures in
+    let over = rw c.in_err-n.was at c.checked_add.ensures in
+    c.from_residual-in_err-n.ensures ∙ none_read _ (none_great text (i + 1) (omega (arith, digits_value_more 10 text i c.loop-b-test.true, dv, c.from.ensures, c.loop-b.invariant.2, ten, over)))
 
 pub loop-b-preserved : goal.loop-b-preserved
 loop-b-preserved c =
     let text = c.args.text.now in
     let i = c.loop-b.b-index in
-    let dv = digit_value (get_or text i 0) c.if-b-lt48.false c.if-b-gt57.false in (
-      omega arith,
-      digits_more 10 text i c.loop-b-test.true c.loop-b.invariant.1 (omega (arith, dv, c.if-b-gt57.false)),
-      ap (λ n. n * 10 + (get_or text i 0 - 48)) c.loop-b.invariant.2 ∙ ap (λ d. digits_value 10 (take i text) * 10 + d) (sym dv) ∙ sym (digits_value_more 10 text i c.loop-b-test.true),
+    let digit = c.if-not-is_ascii_digit.ensures.cases in
+    let dv = digit_value (get_or text i 0) digit.0 digit.1 in
+    let ten = rw c.in_ok-checked_mul.was at c.checked_mul.ensures in
+    let sum = rw c.in_ok-n.was at c.checked_add.ensures in (
+      omega (arith, ten, sum),
+      digits_more 10 text i c.loop-b-test.true c.loop-b.invariant.1 (omega (arith, dv, digit)),
+      omega (arith, digits_value_more 10 text i c.loop-b-test.true, dv, c.from.ensures, c.loop-b.invariant.2, ten, sum),
     )
 
 pub returns : goal.returns

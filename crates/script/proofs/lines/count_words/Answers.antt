@@ -1,11 +1,15 @@
-use Rattle.std.proofs.Common.{length, drop, ap, arith}
-use Rattle.script.specs.Lines.{pieces}
+use Rattle.std.proofs.Common.{length, ap, ◌∙◌, inl, arith}
+use Rattle.std.proofs.lemmas.Iterator.Consumers.{count_from_yields_List}
 use Rattle.script.proofs.Cuts.{few_pieces}
+use Rattle.script.proofs.Given.{gives_pieces, all_left}
 use Rattle.script.proofs.lines.count_words.Goals as goal
 
-pub overflow_add-n : goal.overflow_add-n
-overflow_add-n c =
-    let inv = c.loop-w.invariant in
-    let some = ap length c.in-Some.ensures.piece in
-    let at-end = ap (λ e. length (pieces e (drop c.loop-w.words.at c.loop-w.words.text.now))) inv.0 in
-    omega (arith, inv.1, some, at-end, few_pieces 32 c.args.line.now, c.well_formed.0.0)
+pub count-requires-clause-fits : goal.count-requires-clause-fits
+count-requires-clause-fits c =
+    let told = c.over.ensures in
+    inl (omega (arith, ap length (all_left 32 c.over.result c.args.line.now told.text told.at told.end), few_pieces 32 c.args.line.now, c.well_formed.0.0))
+
+pub returns : goal.returns
+returns c =
+    let told = c.over.ensures in
+    count_from_yields_List _ _ c.count.ensures.ran (gives_pieces c.over.result) ∙ ap length (all_left 32 c.over.result c.args.line.now told.text told.at told.end)

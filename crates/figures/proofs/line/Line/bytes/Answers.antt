@@ -1,15 +1,10 @@
-use Rattle.std.proofs.Common.{◌+◌, length, sym, refl, ap, ◌∙◌, length-append}
-use Rattle.figures.proofs.Parts.{laid, length_into, piece}
+use Rattle.std.proofs.Common.{length, refl, ap, ◌∙◌, arith}
+use Rattle.figures.proofs.Parts.{laid, length_into}
 use Rattle.figures.proofs.line.Line.bytes.Goals as goal
 
 pub returns : goal.returns
 returns c =
-    let made = laid c.args.text.now c.args.self.now.at c.args.self.now.buffer.now _ c.put_bytes.ensures in
-    record {
-      room = ap length made ∙ length_into c.args.text.now c.args.self.now.at c.args.self.now.buffer.now c.requires;
-      at = refl;
-      buffer = made;
-      holds = λ xs before h.
-          (ap (λ n. n + length c.args.text.now) h.0 ∙ sym (length-append xs c.args.text.now), made ∙ piece xs c.args.text.now before _ _ h.0 h.1);
-      lender = refl;
-    }
+    let line = c.args.self.now in
+    let made = laid c.args.text.now line.at line.buffer.now _ c.put_bytes.ensures in
+    let room = ap length made ∙ length_into c.args.text.now line.at line.buffer.now c.requires in
+    record { at = refl; fits = omega (arith, c.requires, room); room = room; buffer = made; lender = refl }

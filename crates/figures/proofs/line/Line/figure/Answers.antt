@@ -1,7 +1,7 @@
-use Rattle.std.proofs.Common.{◌+◌, length, sym, refl, ap, ◌∙◌, arith, length-append, length-drop}
+use Rattle.std.proofs.Common.{length, ◌+◌, refl, ap, ◌∙◌, arith, length-drop}
 use Rattle.std.proofs.lemmas.List.{take_rest}
 use Rattle.figures.specs.Figures.{figure}
-use Rattle.figures.proofs.Parts.{laid, length_into, piece}
+use Rattle.figures.proofs.Parts.{laid, length_into}
 use Rattle.figures.proofs.line.Line.figure.Goals as goal
 
 pub write_figure-wrote-requires : goal.write_figure-wrote-requires
@@ -13,14 +13,9 @@ overflow_add-self c = omega (arith, c.requires, c.write_figure-wrote.ensures.ans
 
 pub returns : goal.returns
 returns c =
+    let line = c.args.self.now in
     let told = c.write_figure-wrote.ensures in
-    let made = laid (figure c.args.n) c.args.self.now.at c.args.self.now.buffer.now _ told.buffer in
-    record {
-      room = ap length made ∙ length_into (figure c.args.n) c.args.self.now.at c.args.self.now.buffer.now c.requires;
-      at = ap (λ n. c.args.self.now.at + n) told.answer;
-      buffer = made;
-      holds = λ xs before h.
-          let at = ap (λ n. c.args.self.now.at + n) told.answer in
-          (at ∙ ap (λ n. n + length (figure c.args.n)) h.0 ∙ sym (length-append xs (figure c.args.n)), made ∙ piece xs (figure c.args.n) before _ _ h.0 h.1);
-      lender = refl;
-    }
+    let made = laid (figure c.args.n) line.at line.buffer.now _ told.buffer in
+    let at = ap (λ n. line.at + n) told.answer in
+    let room = ap length made ∙ length_into (figure c.args.n) line.at line.buffer.now c.requires in
+    record { at = at; fits = omega (arith, c.requires, at, room); room = room; buffer = made; lender = refl }

@@ -3,7 +3,7 @@ use borrow.Author.Tests.{lt-leb}
 use Rattle.denom.specs.Denomination.{same_token}
 use Rattle.denom.specs.Views.{denom_view, token_view}
 use Rattle.tables.specs.View.{denoms_of, tokens_in}
-use Rattle.tables.proofs.Rows.{few_denoms}
+use Rattle.tables.proofs.Taken.{few_denoms}
 use Rattle.world.proofs.Issuing.{found_some, number_for_small}
 use Rattle.world.proofs.world.World.room_for.Goals as goal
 
