@@ -1,5 +1,5 @@
 -- A write to one amount of a table, its columns, and an empty table, as the ledger sees them.
-use Rattle.std.proofs.Common.{◌≡◌, ℕ, ◌+◌, ◌*◌, ◌<◌, ◌≤◌, List, length, get_or, set, refl, ◌∙◌, ⊎_elim, arith, length-set, get_or-set_other, get_or-set_same}
+use Rattle.std.proofs.Common.{◌≡◌, ℕ, ◌+◌, ◌*◌, ◌<◌, ◌≤◌, List, length, get_or, set, ◌∙◌, ⊎_elim, arith, length-set, get_or-set_other, get_or-set_same}
 use mathlib.Core.Path.{fun_ext}
 use Rattle.std.proofs.lemmas.Bool.{cases_eq}
 use Rattle.std.proofs.lemmas.Bool.Decides.{nat_tests}
@@ -10,11 +10,7 @@ use Rattle.sums.proofs.Below.{sum_same, sum_zero}
 use Rattle.sums.proofs.Columns.{column_counted}
 use Rattle.protocol.specs.House.{most}
 use Rattle.protocol.specs.Ledger.{supply, put}
-use Rattle.account_bank.specs.Table.{table_chains, table_balances}
-
--- a write keeps the length
-pub chains_set : (xs : List ℕ) (i v : ℕ) → table_chains (set xs i v) ≡ table_chains xs
-chains_set xs i v = rw length-set refl
+use Rattle.account_bank.specs.Table.{table_balances}
 
 module _ (xs : List ℕ) (a d v : ℕ) (long : 768 ≤ length xs) (ha : a < 24) (hd : d < 32) where
   set_each : (c' a' d' : ℕ) → table_balances (set xs (a * 32 + d) v) c' a' d' ≡ put (table_balances xs) 0 a d v c' a' d'

@@ -1,9 +1,10 @@
-ghost use Rattle.std.specs.Prelude.{◌≡◌, ℕ, ◌+◌, ◌<◌, ◌≤◌, vec_len};
+ghost use Rattle.std.specs.Prelude.{◌≡◌, ℕ, ◌+◌, ◌*◌, ◌≤◌, IfSome, vec_len};
 ghost use Rattle.protocol.specs.House.{most};
 ghost use Rattle.protocol.specs.Ledger.{supply as supply_of, put as balance-put};
+ghost use Rattle.bank.specs.OneChain.{chains_kept};
 ghost use Rattle.account_bank.specs.Table.{table_chains, table_balances, table_kept};
 
-use bank::{Bank, Store};
+use bank::{Bank, Holding, Store};
 use protocol::{ACCOUNTS, DENOMINATIONS};
 use sums::{Column, add_up};
 
@@ -13,15 +14,23 @@ const AMOUNTS: usize = ACCOUNTS * DENOMINATIONS;
 /// A bank on the memory of 768 amounts.
 pub type AccountBank = Bank<Amounts>;
 
-/// The balances of one chain as a table of amounts, a row for each account; less memory than 768 amounts keeps no chain.
+/// The balances of one chain as a table of amounts, a row for each account.
 #[derive(Drop)]
 pub struct Amounts {
     amounts: Vec<u64>,
+    ghost large: { 768 ≤ vec_len amounts },
     ghost supplies: { (c d : ℕ) → supply_of (table_balances amounts.items) c d ≤ most },
 }
 
+// Where the amount of a holding lies.
+fn place(holding: Holding) -> usize
+    ensures { result ≡ holding.account * 32 + holding.denomination }
+{
+    holding.account * DENOMINATIONS + holding.denomination
+}
+
 fn wipe(amounts: &mut Vec<u64>)
-    ensures chains { table_chains amounts.new.items ≡ table_chains amounts.old.items }
+    ensures len { vec_len amounts.new ≡ vec_len amounts.old }
     ensures empty { table_balances amounts.new.items ≡ (λ _ _ _. 0) }
     ensures supplies { (c d : ℕ) → supply_of (table_balances amounts.new.items) c d ≤ most }
 {
@@ -30,15 +39,11 @@ fn wipe(amounts: &mut Vec<u64>)
 
 impl Amounts {
     // Sets one balance where the supply has room for it.
-    fn put(&mut self, account: usize, denomination: usize, amount: u64)
-        requires served { 768 ≤ vec_len self.old.amounts }
-        requires account { account < 24 }
-        requires denomination { denomination < 32 }
-        requires fits { supply_of (table_balances self.old.amounts.items) 0 denomination + amount ≤ most + table_balances self.old.amounts.items 0 account denomination }
-        ensures chains { table_chains self.new.amounts.items ≡ table_chains self.old.amounts.items }
-        ensures after { table_balances self.new.amounts.items ≡ balance-put (table_balances self.old.amounts.items) 0 account denomination amount }
+    fn put(&mut self, holding: Holding, amount: u64)
+        requires { supply_of (table_balances self.old.amounts.items) 0 holding.denomination + amount ≤ most + table_balances self.old.amounts.items 0 holding.account holding.denomination }
+        ensures { table_balances self.new.amounts.items ≡ balance-put (table_balances self.old.amounts.items) 0 holding.account holding.denomination amount }
     {
-        self.amounts[account * DENOMINATIONS + denomination] = amount;
+        self.amounts[place(holding)] = amount;
     }
 }
 
@@ -47,26 +52,23 @@ impl Store for Amounts {
 
     ghost room = { table_chains };
 
-    ghost serves = { λ s. table_chains s.amounts.items };
-
     ghost balances = { λ s. table_balances s.amounts.items };
 
     ghost kept = { λ s. table_kept s.amounts.items s.supplies };
 
-    fn over(mut amounts: Vec<u64>) -> Amounts
-        ensures serves { table_chains result.amounts.items ≡ table_chains amounts.items }
-        ensures empty { table_balances result.amounts.items ≡ (λ _ _ _. 0) }
+    fn over(mut amounts: Vec<u64>) -> Option<Amounts>
+        ensures chains { chains_kept result ≡ table_chains amounts.items }
+        ensures empty { IfSome result (λ s. table_balances s.amounts.items ≡ (λ _ _ _. 0)) }
     {
+        if amounts.len() < AMOUNTS {
+            return None;
+        }
         wipe(&mut amounts);
-        Amounts { amounts }
+        Some(Amounts { amounts })
     }
 
-    fn chains(&self) -> usize {
-        if self.amounts.len() < AMOUNTS { 0 } else { 1 }
-    }
-
-    fn at(&self, account: usize, denomination: usize) -> u64 {
-        self.amounts[account * DENOMINATIONS + denomination]
+    fn at(&self, holding: Holding) -> u64 {
+        self.amounts[place(holding)]
     }
 
     fn sum_of(&self, accounts: usize, denomination: usize) -> u64 {
@@ -78,13 +80,13 @@ impl Store for Amounts {
         add_up(&self.amounts, &column) as u64
     }
 
-    fn give(&mut self, account: usize, denomination: usize, amount: u64) {
-        let old = self.at(account, denomination);
-        self.put(account, denomination, old + amount);
+    fn give(&mut self, holding: Holding, amount: u64) {
+        let old = self.at(holding);
+        self.put(holding, old + amount);
     }
 
-    fn leave(&mut self, account: usize, denomination: usize, rest: u64) {
-        self.put(account, denomination, rest);
+    fn leave(&mut self, holding: Holding, rest: u64) {
+        self.put(holding, rest);
     }
 
     fn clear(&mut self) {

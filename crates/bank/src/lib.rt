@@ -5,4 +5,4 @@ mod one_chain;
 mod store;
 
 pub use one_chain::Bank;
-pub use store::Store;
+pub use store::{Holding, Store};

@@ -1,12 +1,8 @@
 ghost use Rattle.std.specs.Prelude.{◌≡◌, ℕ, ◌<◌};
-ghost use Rattle.protocol.specs.Faults.{told_by, ledger_number};
-ghost use Rattle.protocol.specs.Ledger.{debited};
-ghost use Rattle.protocol.specs.Refusals.{answer_unless, left_by};
-ghost use Rattle.ledger.specs.Empty.{without_bars, empty};
-ghost use Rattle.ledger.specs.Taking.{take_refusals};
-ghost use Rattle.bank.specs.OneChain.{kept_lawful, kept_unserved};
+ghost use Rattle.ledger.specs.Empty.{empty};
+ghost use Rattle.bank.specs.OneChain.{bank_meaning, bank_lawful, bank_unserved};
 
-use crate::store::Store;
+use crate::store::{Holding, Store};
 use ledger::{
     Confined, Ledger, balance_within, chain_within, move_within, total_within, user_within, within,
 };
@@ -15,42 +11,27 @@ use protocol::{ACCOUNTS, LedgerFault, USERS};
 /// A bank that serves one chain, without bars, over what keeps its balances; over too little memory it serves none.
 #[derive(Drop)]
 pub struct Bank<S: Store> {
-    store: S,
+    store: Option<S>,
 }
 
 impl<S: Store> Bank<S> {
     /// An empty bank on a memory.
     pub fn new(memory: Vec<S::Unit>) -> Bank<S>
-        ensures { without_bars (S.Store.serves result.store) (S.Store.balances result.store) ≡ empty (S.Store.room memory.items) }
+        ensures { bank_meaning S.Store.balances result.store ≡ empty (S.Store.room memory.items) }
     {
         Bank {
             store: S::over(memory),
         }
     }
-
-    // Takes from a balance that is large enough.
-    fn take(&mut self, account: usize, denomination: usize, amount: u64) -> Result<(), LedgerFault>
-        requires served { S.Store.serves self.old.store ≡ 1 }
-        requires account { account < 24 }
-        requires denomination { denomination < 32 }
-        ensures answer { told_by ledger_number result ≡ answer_unless (take_refusals (S.Store.balances self.old.store) 0 account denomination amount) tt }
-        ensures serves { S.Store.serves self.new.store ≡ S.Store.serves self.old.store }
-        ensures after { S.Store.balances self.new.store ≡ left_by result (S.Store.balances self.old.store) (debited (S.Store.balances self.old.store) 0 account denomination amount) }
-    {
-        let old = self.store.at(account, denomination);
-        let rest = old.checked_sub(amount).ok_or(LedgerFault::BalanceTooSmall)?;
-        self.store.leave(account, denomination, rest);
-        Ok(())
-    }
 }
 
 impl<S: Store> Ledger for Bank<S> {
-    ghost meaning = { λ b. without_bars (S.Store.serves b.store) (S.Store.balances b.store) };
+    ghost meaning = { λ b. bank_meaning S.Store.balances b.store };
 
-    ghost lawful = { λ b. kept_lawful (S.Store.serves b.store) (S.Store.balances b.store) (S.Store.kept b.store) };
+    ghost lawful = { λ b. bank_lawful S.Store.balances S.Store.kept b.store };
 
     fn chains(&self) -> usize {
-        self.store.chains()
+        usize::from(self.store.is_some())
     }
 
     fn balance(
@@ -59,27 +40,30 @@ impl<S: Store> Ledger for Bank<S> {
         account: usize,
         denomination: usize,
     ) -> Result<u64, LedgerFault> {
-        balance_within(self.store.chains(), chain, account, denomination)?;
-        Ok(self.store.at(account, denomination))
+        balance_within(self.chains(), chain, account, denomination)?;
+        let store = self.store.as_ref().ok_or(LedgerFault::ChainNotServed)?;
+        Ok(store.at(Holding::of(account, denomination)))
     }
 
     fn supply(&self, chain: usize, denomination: usize) -> Result<u64, LedgerFault> {
-        total_within(self.store.chains(), chain, denomination)?;
-        Ok(self.store.sum_of(ACCOUNTS, denomination))
+        total_within(self.chains(), chain, denomination)?;
+        let store = self.store.as_ref().ok_or(LedgerFault::ChainNotServed)?;
+        Ok(store.sum_of(ACCOUNTS, denomination))
     }
 
     fn users_hold(&self, chain: usize, denomination: usize) -> Result<u64, LedgerFault> {
-        total_within(self.store.chains(), chain, denomination)?;
-        Ok(self.store.sum_of(USERS, denomination))
+        total_within(self.chains(), chain, denomination)?;
+        let store = self.store.as_ref().ok_or(LedgerFault::ChainNotServed)?;
+        Ok(store.sum_of(USERS, denomination))
     }
 
     fn is_barred(&self, chain: usize, user: usize) -> Result<bool, LedgerFault> {
-        user_within(self.store.chains(), chain, user)?;
+        user_within(self.chains(), chain, user)?;
         Ok(false)
     }
 
     fn serves_bars(&self, chain: usize) -> Result<bool, LedgerFault> {
-        chain_within(self.store.chains(), chain)?;
+        chain_within(self.chains(), chain)?;
         Ok(false)
     }
 
@@ -90,11 +74,12 @@ impl<S: Store> Ledger for Bank<S> {
         denomination: usize,
         amount: u64,
     ) -> Result<(), LedgerFault> {
-        within(self.store.chains(), chain, account, amount, denomination)?;
-        if amount > u64::MAX - self.store.sum_of(ACCOUNTS, denomination) {
+        within(self.chains(), chain, account, amount, denomination)?;
+        let store = self.store.as_mut().ok_or(LedgerFault::ChainNotServed)?;
+        if amount > u64::MAX - store.sum_of(ACCOUNTS, denomination) {
             return Err(LedgerFault::SupplyTooLarge);
         }
-        self.store.give(account, denomination, amount);
+        store.give(Holding::of(account, denomination), amount);
         Ok(())
     }
 
@@ -105,8 +90,9 @@ impl<S: Store> Ledger for Bank<S> {
         denomination: usize,
         amount: u64,
     ) -> Result<(), LedgerFault> {
-        within(self.store.chains(), chain, account, amount, denomination)?;
-        self.take(account, denomination, amount)
+        within(self.chains(), chain, account, amount, denomination)?;
+        let store = self.store.as_mut().ok_or(LedgerFault::ChainNotServed)?;
+        store.take(Holding::of(account, denomination), amount)
     }
 
     fn transfer(
@@ -117,9 +103,10 @@ impl<S: Store> Ledger for Bank<S> {
         denomination: usize,
         amount: u64,
     ) -> Result<(), LedgerFault> {
-        move_within(self.store.chains(), chain, from, to, amount, denomination)?;
-        self.take(from, denomination, amount)?;
-        self.store.give(to, denomination, amount);
+        move_within(self.chains(), chain, from, to, amount, denomination)?;
+        let store = self.store.as_mut().ok_or(LedgerFault::ChainNotServed)?;
+        store.take(Holding::of(from, denomination), amount)?;
+        store.give(Holding::of(to, denomination), amount);
         Ok(())
     }
 
@@ -133,10 +120,12 @@ impl<S: Store> Ledger for Bank<S> {
     }
 
     fn clear(&mut self) {
-        self.store.clear();
+        if let Some(store) = &mut self.store {
+            store.clear();
+        }
     }
 }
 
 impl<S: Store> Confined for Bank<S> {
-    ghost unserved = { λ b c a d _ h. kept_unserved (S.Store.serves b.store) (S.Store.balances b.store) (S.Store.kept b.store) c a d h };
+    ghost unserved = { λ b c a d _ h. bank_unserved S.Store.balances S.Store.kept b.store c a d h };
 }

@@ -20,7 +20,7 @@ pub supply_elsewhere : (b : Balances) (c a d x c' d' : ℕ) → (c' ≡ c → d'
 supply_elsewhere b c a d x c' d' h = sum_same 24 _ _ (λ k l. grind (arith, nat_tests))
 
 -- if the supply of the balance that is set stays in bounds, all supplies do
-pub supplies_kept : (b : Balances) (c a d x : ℕ) → a < 24 → ((c' d' : ℕ) → supply b c' d' ≤ most) → supply b c d + x ≤ most + b c a d → (c' d' : ℕ) → supply (put b c a d x) c' d' ≤ most
+supplies_kept : (b : Balances) (c a d x : ℕ) → a < 24 → ((c' d' : ℕ) → supply b c' d' ≤ most) → supply b c d + x ≤ most + b c a d → (c' d' : ℕ) → supply (put b c a d x) c' d' ≤ most
 supplies_kept b c a d x h law fits c' d' =
     ⊎_elim
     (λ (e : c' ≡ c). ⊎_elim
@@ -29,6 +29,10 @@ supplies_kept b c a d x h law fits c' d' =
     (cases_eq d' d))
     (λ (e : c' ≡ c → ⊥). rw (supply_elsewhere b c a d x c' d' (λ p q. e p)) (law c' d'))
     (cases_eq c' c)
+
+-- said of the balances that are left
+pub supplies_left : (b b' : Balances) (c a d x : ℕ) → b' ≡ put b c a d x → a < 24 → ((c' d' : ℕ) → supply b c' d' ≤ most) → supply b c d + x ≤ most + b c a d → (c' d' : ℕ) → supply b' c' d' ≤ most
+supplies_left b b' c a d x e h law fits c' d' = rw e (supplies_kept b c a d x h law fits c' d')
 
 -- a balance is at most its supply
 pub balance_in_supply : (b : Balances) (c a d : ℕ) → a < 24 → b c a d ≤ supply b c d

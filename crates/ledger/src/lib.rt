@@ -13,7 +13,8 @@ pub use checks::{balance_within, chain_within, move_within, total_within, user_w
 use protocol::LedgerFault;
 pub use protocol::{ACCOUNTS, DENOMINATIONS, USERS};
 
-/// Balances of chains by account and denomination, and barred users. Numbers outside the meaning are refused.
+/// Balances of chains by account and denomination, and barred users. Numbers outside the meaning are refused, so they come as
+/// they are: a struct of them would be made for each call alone, and promise nothing.
 pub trait Ledger {
     ghost meaning: { Self → Meaning };
 

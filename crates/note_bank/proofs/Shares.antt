@@ -1,5 +1,5 @@
 -- What one place more, one place replaced and places freed do to the sums of notes, and what the adding-up routine gives.
-use Rattle.std.proofs.Common.{◌≡◌, ℕ, zero, suc, ◌+◌, ◌<◌, ◌≤◌, true, false, cond, ◌&&◌, eqb, List, [], ◌∷◌, ◌++◌, map, length, get_or, take, drop, set, sym, refl, ap, ◌∙◌, ⊎_elim, arith, length-set, get_or-set_other, get_or-set_same, Bool, None, Some}
+use Rattle.std.proofs.Common.{◌≡◌, ℕ, zero, suc, ◌+◌, ◌<◌, ◌≤◌, true, false, cond, ◌&&◌, eqb, List, [], ◌∷◌, ◌++◌, map, length, get_or, take, drop, set, sym, refl, ap, ◌∙◌, ⊎_elim, arith, length-set, Bool, None, Some}
 use mathlib.Core.Path.{fun_ext}
 use Rattle.std.proofs.lemmas.List.{get_or_past, get_or-map, length-map}
 use Rattle.std.proofs.lemmas.Bool.{cases_eq, cases_lt, cases_Bool}
@@ -10,24 +10,13 @@ use Rattle.sums.proofs.Below.{sum_same, sum_zero, sum_only, sum_add}
 use Rattle.sums.proofs.Counted.{counted_total, total_same, total_set}
 use Rattle.protocol.specs.House.{most}
 use Rattle.protocol.specs.Ledger.{Balances, supply, put}
-use Rattle.note_bank.specs.Notes.{amount_of, belongs, share, note_in, proper, Proper, FreeFrom, released, note_chains, held, note_balances, Place}
+use Rattle.note_bank.specs.Notes.{amount_of, belongs, share, note_in, FreeFrom, released, held, note_balances, Place}
 use Rattle.note_bank.specs.declared.place.Note.{Note}
-
--- the one chain is kept on 1,024 places or more
-pub kept_on : (xs : List Place) → note_chains xs ≡ 1 → 1024 ≤ length xs
-kept_on xs e = grind (arith, nat_tests)
 
 -- one place replaced
 pub held_set : (xs : List Place) (i : ℕ) (p : Place) → i < length xs → (a d : ℕ) → held (set xs i p) a d + share a d (get_or xs i None) ≡ held xs a d + share a d p
 unfolding held
 held_set xs i p h a d = total_set (share a d) xs i p None h
-
-pub proper_set : (xs : List Place) (i : ℕ) (p : Place) → i < length xs → Proper xs → proper p ≡ true → Proper (set xs i p)
-proper_set xs i p h all e k =
-    ⊎_elim
-    (λ (same : k ≡ i). rw (same, get_or-set_same xs i p None h) e)
-    (λ (other : k ≡ i → ⊥). rw (get_or-set_other xs i k p None other) (all k))
-    (cases_eq k i)
 
 -- the places of an account's notes freed
 share_released : (a d a' d' : ℕ) (p : Place) → share a' d' (released a d p) ≡ cond (eqb a' a && eqb d' d) 0 (share a' d' p)
@@ -48,20 +37,6 @@ held_released (x ∷ xs) a d a' d' =
     (λ (e : (eqb a' a && eqb d' d) ≡ true). rw e (omega (arith, rw e at here, rw e at rest)))
     (λ (e : (eqb a' a && eqb d' d) ≡ false). rw e (omega (arith, rw e at here, rw e at rest)))
     (cases_Bool (eqb a' a && eqb d' d))
-
-proper_free : (a d : ℕ) (p : Place) → proper p ≡ true → proper (released a d p) ≡ true
-proper_free a d p e =
-    ⊎_elim
-    (λ (f : belongs a d p ≡ true). rw f refl)
-    (λ (f : belongs a d p ≡ false). rw f e)
-    (cases_Bool (belongs a d p))
-
-pub proper_released : (xs : List Place) (a d : ℕ) → Proper xs → Proper (map (released a d) xs)
-proper_released xs a d all k =
-    ⊎_elim
-    (λ (h : k < length xs). rw (get_or-map (released a d) xs k None None h) (proper_free a d (get_or xs k None) (all k)))
-    (λ (h : length xs ≤ k). rw (get_or_past (map (released a d) xs) k None (rw length-map h)) refl)
-    (cases_lt k (length xs))
 
 -- free places are as they were
 free_released : (xs : List Place) (a d : ℕ) → ((k : ℕ) → get_or xs k None ≡ None) → map (released a d) xs ≡ xs
@@ -102,23 +77,23 @@ unfolding note_balances
 balance_held xs a d long ha hd = grind (arith, nat_tests)
 
 -- a note put into a free place
-module _ (xs : List Place) (i : ℕ) (n : Note) (long : 1024 ≤ length xs) (within : i < length xs) (free : get_or xs i None ≡ None) (ha : n.owner < 24) (hd : n.denomination < 32) where
-  added_each : (a d : ℕ) → held (set xs i (Some n)) a d ≡ cond (eqb a n.owner && eqb d n.denomination) (note_balances xs 0 n.owner n.denomination + n.amount) (held xs a d)
+module _ (xs : List Place) (i : ℕ) (n : Note) (long : 1024 ≤ length xs) (within : i < length xs) (free : get_or xs i None ≡ None) where
+  added_each : (a d : ℕ) → held (set xs i (Some n)) a d ≡ cond (eqb a n.holding.account && eqb d n.holding.denomination) (note_balances xs 0 n.holding.account n.holding.denomination + n.amount) (held xs a d)
   added_each a d =
       let on = rw free at (held_set xs i (Some n) within a d) in
-      let was = balance_held xs n.owner n.denomination long ha hd in
+      let was = balance_held xs n.holding.account n.holding.denomination long n.holding.account_known n.holding.denomination_known in
       ⊎_elim
-      (λ (e : a ≡ n.owner). ⊎_elim
-      (λ (f : d ≡ n.denomination).
-      let same : held xs a d ≡ held xs n.owner n.denomination = rw (e, f) refl in
+      (λ (e : a ≡ n.holding.account). ⊎_elim
+      (λ (f : d ≡ n.holding.denomination).
+      let same : held xs a d ≡ held xs n.holding.account n.holding.denomination = rw (e, f) refl in
       grind (arith, nat_tests))
-      (λ (f : d ≡ n.denomination → ⊥). grind (arith, nat_tests))
-      (cases_eq d n.denomination))
-      (λ (e : a ≡ n.owner → ⊥). grind (arith, nat_tests))
-      (cases_eq a n.owner)
+      (λ (f : d ≡ n.holding.denomination → ⊥). grind (arith, nat_tests))
+      (cases_eq d n.holding.denomination))
+      (λ (e : a ≡ n.holding.account → ⊥). grind (arith, nat_tests))
+      (cases_eq a n.holding.account)
 
-  pub note_added : note_balances (set xs i (Some n)) ≡ put (note_balances xs) 0 n.owner n.denomination (note_balances xs 0 n.owner n.denomination + n.amount)
-  note_added = balances_put xs (set xs i (Some n)) n.owner n.denomination _ long (length-set xs i (Some n)) ha hd added_each
+  pub note_added : note_balances (set xs i (Some n)) ≡ put (note_balances xs) 0 n.holding.account n.holding.denomination (note_balances xs 0 n.holding.account n.holding.denomination + n.amount)
+  note_added = balances_put xs (set xs i (Some n)) n.holding.account n.holding.denomination _ long (length-set xs i (Some n)) n.holding.account_known n.holding.denomination_known added_each
 
 -- what the adding-up routine gives for a column of places
 abbrev pub notes_counted : Column → List Place → ℕ
@@ -154,15 +129,15 @@ each_share : (w : Column) → w.from ≡ 0 → (p : Place) → sum_below w.to (�
 each_share w e None = sum_zero w.to
 each_share w e (Some n) =
     ⊎_elim
-    (λ (h : n.owner < w.to).
-    sum_same w.to _ (λ a. gate (eqb a n.owner) (gate (eqb n.denomination w.denomination) n.amount)) (λ a l. grind (arith, nat_tests))
-    ∙ sum_only w.to n.owner (λ a. gate (eqb n.denomination w.denomination) n.amount) h
+    (λ (h : n.holding.account < w.to).
+    sum_same w.to _ (λ a. gate (eqb a n.holding.account) (gate (eqb n.holding.denomination w.denomination) n.amount)) (λ a l. grind (arith, nat_tests))
+    ∙ sum_only w.to n.holding.account (λ a. gate (eqb n.holding.denomination w.denomination) n.amount) h
     ∙ grind (arith, nat_tests))
-    (λ (h : w.to ≤ n.owner).
+    (λ (h : w.to ≤ n.holding.account).
     sum_same w.to _ (λ a. 0) (λ a l. grind (arith, nat_tests))
     ∙ sum_zero w.to
     ∙ grind (arith, nat_tests))
-    (cases_lt n.owner w.to)
+    (cases_lt n.holding.account w.to)
 
 column_held : (w : Column) → w.from ≡ 0 → (xs : List Place) → total (λ p. gate (in_column w p) (amount_of p)) xs ≡ sum_below w.to (λ a. held xs a w.denomination)
 unfolding held
@@ -204,10 +179,6 @@ module _ (w : Column) (n : ℕ) (xs : List Place) (rest : FreeFrom n xs) (long :
       ∙ sum_same w.to _ _ (λ a h. held_front n xs rest a w.denomination ∙ sym (balance_held xs a w.denomination long (omega arith) known))
 
 -- places that are all free
-module _ (xs : List Place) (free : (k : ℕ) → get_or xs k None ≡ None) where
-  pub free_proper : Proper xs
-  free_proper k = rw (free k) refl
-
 pub free_balances : (xs : List Place) → ((k : ℕ) → get_or xs k None ≡ None) → note_balances xs ≡ (λ _ _ _. 0)
 unfolding note_balances
 free_balances xs free = fun_ext λ c. fun_ext λ a. fun_ext λ d. let h = free_held xs free a d in grind (arith, nat_tests)

@@ -1,7 +1,8 @@
 -- What places with notes mean as a ledger: one chain, a balance the sum of its notes, and no bars.
-use Rattle.std.specs.Prelude.{◌≡◌, ℕ, ◌+◌, ◌*◌, ◌<◌, ◌≤◌, Bool, true, false, cond, ◌&&◌, List, length, is_some, Some, None, Option, ◌==◌, nat_le, nat_lt, slice_index_or, refl}
+use Rattle.std.specs.Prelude.{◌≡◌, ℕ, ◌+◌, ◌*◌, ◌<◌, ◌≤◌, Bool, true, false, cond, ◌&&◌, List, length, is_some, Some, None, Option, ◌==◌, nat_le, nat_lt, slice_index_or}
 use Rattle.std.specs.Option.{option_map}
-use Rattle.std.proofs.lemmas.Bool.{le-ltb}
+use Rattle.std.proofs.Common.{arith}
+use Rattle.std.proofs.lemmas.Bool.Decides.{nat_tests}
 use Rattle.sums.specs.Sums.{total, gate}
 use Rattle.sums.specs.declared.Column.{Column}
 use Rattle.protocol.specs.House.{most, accounts, denoms_most}
@@ -21,7 +22,7 @@ amount_of (Some n) = n.amount
 -- a note of denomination d that belongs to account a
 abbrev pub belongs : ℕ → ℕ → Place → Bool
 belongs a d None = false
-belongs a d (Some n) = n.owner == a && n.denomination == d
+belongs a d (Some n) = n.holding.account == a && n.holding.denomination == d
 
 -- what a place adds to the balance of account a and denomination d
 abbrev pub share : ℕ → ℕ → Place → ℕ
@@ -29,16 +30,8 @@ share a d p = gate (belongs a d p) (amount_of p)
 
 -- a note of a column's denomination that belongs to one of its accounts
 abbrev pub note_in : Column → Note → ℕ → Bool
-note_in w n i = (n.denomination == w.denomination) && (nat_le w.from n.owner && nat_lt n.owner w.to)
-
--- a note is of an account and a denomination that there are, and its amount is at least 1
-abbrev pub proper : Place → Bool
-proper None = true
-proper (Some n) = nat_lt n.owner accounts && (nat_lt n.denomination denoms_most && nat_lt 0 n.amount)
-
--- all notes are
-abbrev pub Proper : List Place → Type 0
-Proper xs = (k : ℕ) → proper (slice_index_or xs k None) ≡ true
+note_in w n i =
+    (n.holding.denomination == w.denomination) && (nat_le w.from n.holding.account && nat_lt n.holding.account w.to)
 
 -- every place from place n on is free
 abbrev pub FreeFrom : ℕ → List Place → Type 0
@@ -46,7 +39,7 @@ FreeFrom n xs = (k : ℕ) → n ≤ k → slice_index_or xs k None ≡ None
 
 -- account and denomination of a note as one number
 abbrev pub pair_of : Place → Option ℕ
-pair_of p = option_map (λ (n : Note). n.owner * 32 + n.denomination) p
+pair_of p = option_map (λ (n : Note). n.holding.account * 32 + n.holding.denomination) p
 
 -- every place holds a note
 abbrev pub Full : List Place → Type 0
@@ -55,10 +48,6 @@ Full xs = (k : ℕ) → k < length xs → is_some (slice_index_or xs k None) ≡
 -- two notes of one account and denomination
 abbrev pub Alike : Place → Place → Type 0
 Alike p q = (is_some (pair_of p) ≡ true) × (pair_of p ≡ pair_of q)
-
--- two such notes as one: both amounts under the first's account and denomination
-abbrev pub joint_note : Note → Note → Note
-joint_note n k = record { owner = n.owner; denomination = n.denomination; amount = n.amount + k.amount }
 
 -- a place without the notes of account a and denomination d
 abbrev pub released : ℕ → ℕ → Place → Place
@@ -76,7 +65,7 @@ held xs a d = total (share a d) xs
 unfoldable pub note_balances : List Place → Balances
 note_balances xs c a d = cond (nat_lt c (note_chains xs) && nat_lt a accounts && nat_lt d denoms_most) (held xs a d) 0
 
--- where supplies are in bounds, that is all that a bank asks of its store: a chain that is not served has no balance
-pub notes_kept : (xs : List Place) → ((c d : ℕ) → supply (note_balances xs) c d ≤ most) → Kept (note_chains xs) (note_balances xs)
+-- where supplies are in bounds, that is all that a bank asks of its store: no chain but chain 0 has a balance
+pub notes_kept : (xs : List Place) → ((c d : ℕ) → supply (note_balances xs) c d ≤ most) → Kept (note_balances xs)
 unfolding note_balances
-notes_kept xs h = record { supplies = h; unserved = λ c a d out. rw (le-ltb c (note_chains xs) out) refl }
+notes_kept xs h = record { supplies = h; elsewhere = λ c a d out. grind (arith, nat_tests) }

@@ -4,6 +4,7 @@
 mod notes;
 mod pairs;
 mod place;
+mod rows;
 
 pub use notes::{NoteBank, Notes};
 pub use place::{Note, Place};

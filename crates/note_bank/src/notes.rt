@@ -1,11 +1,12 @@
-ghost use Rattle.std.specs.Prelude.{◌≡◌, ℕ, ◌<◌, ◌≤◌, take, vec_len, slice_index_or};
+ghost use Rattle.std.specs.Prelude.{◌≡◌, ℕ, ◌<◌, ◌≤◌, take, IfSome, vec_len, slice_index_or};
 ghost use Rattle.protocol.specs.House.{most};
 ghost use Rattle.protocol.specs.Ledger.{supply as supply_of, put as balance-put};
-ghost use Rattle.note_bank.specs.Notes.{Proper, FreeFrom, Full, note_chains, note_balances, notes_kept};
+ghost use Rattle.bank.specs.OneChain.{chains_kept};
+ghost use Rattle.note_bank.specs.Notes.{FreeFrom, Full, note_chains, note_balances, notes_kept};
 
 use crate::pairs;
 use crate::place::{Note, Place};
-use bank::{Bank, Store};
+use bank::{Bank, Holding, Store};
 use sums::{Column, add_up};
 
 // How many places one chain takes.
@@ -14,33 +15,25 @@ const PLACES: usize = 1024;
 /// A bank on 1,024 places for notes.
 pub type NoteBank = Bank<Notes>;
 
-/// The balances of one chain as notes, each in a place of its own; less memory than 1,024 places keeps no chain.
-/// All notes lie in the first `used` places.
+/// The balances of one chain as notes, each in a place of its own. All notes lie in the first `used` places: the memory is
+/// handed over, and no `Vec` of notes grows on it.
 #[derive(Drop)]
 pub struct Notes {
     places: Vec<Place>,
     used: usize,
+    ghost large: { 1024 ≤ vec_len places },
     ghost supplies: { (c d : ℕ) → supply_of (note_balances places.items) c d ≤ most },
-    ghost notes: { Proper places.items },
     ghost front: { used ≤ vec_len places },
     ghost rest: { FreeFrom used places.items },
 }
 
 fn wipe(places: &mut Vec<Place>)
-    ensures chains { note_chains places.new.items ≡ note_chains places.old.items }
+    ensures len { vec_len places.new ≡ vec_len places.old }
     ensures empty { note_balances places.new.items ≡ (λ _ _ _. 0) }
     ensures supplies { (c d : ℕ) → supply_of (note_balances places.new.items) c d ≤ most }
-    ensures notes { Proper places.new.items }
     ensures free { FreeFrom 0 places.new.items }
 {
     places.fill(None);
-}
-
-// Places past the first 1,024 are given up.
-fn cut(places: &mut Vec<Place>)
-    ensures { note_chains places.new.items ≡ note_chains places.old.items }
-{
-    places.truncate(PLACES);
 }
 
 impl Notes {
@@ -55,7 +48,6 @@ impl Notes {
     fn join(&mut self) -> usize
         requires served { 1024 ≤ self.old.used }
         requires full { Full (take self.old.used self.old.places.items) }
-        ensures len { vec_len self.new.places ≡ vec_len self.old.places }
         ensures after { note_balances self.new.places.items ≡ note_balances self.old.places.items }
         ensures within { result < self.new.used }
         ensures free { slice_index_or self.new.places.items result None ≡ None }
@@ -67,9 +59,7 @@ impl Notes {
 
     // The first place that no note lies in yet, where there is one, and else a place freed by joining two notes.
     fn fresh_place(&mut self) -> usize
-        requires served { 1024 ≤ vec_len self.old.places }
         requires full { Full (take self.old.used self.old.places.items) }
-        ensures len { vec_len self.new.places ≡ vec_len self.old.places }
         ensures after { note_balances self.new.places.items ≡ note_balances self.old.places.items }
         ensures within { result < self.new.used }
         ensures free { slice_index_or self.new.places.items result None ≡ None }
@@ -85,8 +75,6 @@ impl Notes {
 
     // A free place among those used: one that was freed before, or else a fresh one.
     fn free_place(&mut self) -> usize
-        requires served { 1024 ≤ vec_len self.old.places }
-        ensures len { vec_len self.new.places ≡ vec_len self.old.places }
         ensures after { note_balances self.new.places.items ≡ note_balances self.old.places.items }
         ensures within { result < self.new.used }
         ensures free { slice_index_or self.new.places.items result None ≡ None }
@@ -97,15 +85,11 @@ impl Notes {
         }
     }
 
-    // The account's notes of the denomination are taken away.
-    fn release(&mut self, account: usize, denomination: usize)
-        requires served { 1024 ≤ vec_len self.old.places }
-        requires account { account < 24 }
-        requires denomination { denomination < 32 }
-        ensures len { vec_len self.new.places ≡ vec_len self.old.places }
-        ensures after { note_balances self.new.places.items ≡ balance-put (note_balances self.old.places.items) 0 account denomination 0 }
+    // The notes of a holding are taken away.
+    fn release(&mut self, holding: Holding)
+        ensures { note_balances self.new.places.items ≡ balance-put (note_balances self.old.places.items) 0 holding.account holding.denomination 0 }
     {
-        pairs::release(&mut self.places[0..self.used], account, denomination);
+        pairs::release(&mut self.places[0..self.used], holding);
     }
 }
 
@@ -114,30 +98,27 @@ impl Store for Notes {
 
     ghost room = { note_chains };
 
-    ghost serves = { λ s. note_chains s.places.items };
-
     ghost balances = { λ s. note_balances s.places.items };
 
     ghost kept = { λ s. notes_kept s.places.items s.supplies };
 
-    fn over(mut places: Vec<Place>) -> Notes
-        ensures serves { note_chains result.places.items ≡ note_chains places.items }
-        ensures empty { note_balances result.places.items ≡ (λ _ _ _. 0) }
+    fn over(mut places: Vec<Place>) -> Option<Notes>
+        ensures chains { chains_kept result ≡ note_chains places.items }
+        ensures empty { IfSome result (λ s. note_balances s.places.items ≡ (λ _ _ _. 0)) }
     {
-        cut(&mut places);
+        if places.len() < PLACES {
+            return None;
+        }
+        places.truncate(PLACES);
         wipe(&mut places);
-        Notes { places, used: 0 }
+        Some(Notes { places, used: 0 })
     }
 
-    fn chains(&self) -> usize {
-        if self.places.len() < PLACES { 0 } else { 1 }
-    }
-
-    fn at(&self, account: usize, denomination: usize) -> u64 {
+    fn at(&self, holding: Holding) -> u64 {
         let column = Column {
-            denomination,
-            from: account,
-            to: account + 1,
+            denomination: holding.denomination,
+            from: holding.account,
+            to: holding.account + 1,
         };
         add_up(self.front(), &column) as u64
     }
@@ -152,21 +133,16 @@ impl Store for Notes {
     }
 
     // A new note.
-    fn give(&mut self, account: usize, denomination: usize, amount: u64) {
+    fn give(&mut self, holding: Holding, amount: u64) {
         let place = self.free_place();
-        let owner = account;
-        self.places[place] = Some(Note {
-            owner,
-            denomination,
-            amount,
-        });
+        self.places[place] = Some(Note { holding, amount });
     }
 
     // What is left of the notes is one note.
-    fn leave(&mut self, account: usize, denomination: usize, rest: u64) {
-        self.release(account, denomination);
+    fn leave(&mut self, holding: Holding, rest: u64) {
+        self.release(holding);
         if rest > 0 {
-            self.give(account, denomination, rest);
+            self.give(holding, rest);
         }
     }
 

@@ -1,12 +1,14 @@
 // What is done with the places: finding a free one, joining two notes, freeing places.
 ghost use Rattle.std.specs.Prelude.{◌≡◌, ℕ, ◌+◌, ◌<◌, ◌≤◌, map, length, MatchOption, slice_index_or};
 ghost use Rattle.protocol.specs.House.{most};
-ghost use Rattle.note_bank.specs.Notes.{Proper, Full, Alike, amount_of, belongs, joint_note, held, released};
+ghost use Rattle.note_bank.specs.Notes.{Full, Alike, amount_of, belongs, held, released};
 
 use crate::place::{Note, Place};
+use bank::Holding;
 use protocol::{ACCOUNTS, DENOMINATIONS};
 
-// How many pairs of an account and a denomination there are.
+// How many pairs of an account and a denomination there are. The table of those seen has a place for each: a map would need
+// the heap.
 const PAIRS: usize = ACCOUNTS * DENOMINATIONS;
 
 // A free place, if there is one.
@@ -20,7 +22,6 @@ pub(crate) fn find_free(places: &[Place]) -> Option<usize>
 pub(crate) fn find_pair(places: &[Place]) -> (usize, usize)
     requires full { Full places.now }
     requires many { 768 < length places.now }
-    requires notes { Proper places.now }
     ensures order { result.0 < result.1 }
     ensures within { result.1 < length places.now }
     ensures alike { Alike (slice_index_or places.now result.0 None) (slice_index_or places.now result.1 None) }
@@ -28,7 +29,7 @@ pub(crate) fn find_pair(places: &[Place]) -> (usize, usize)
     let mut seen: [Option<usize>; PAIRS] = [None; PAIRS];
     for (index, place) in places.iter().enumerate() {
         if let Some(note) = place {
-            let pair = note.owner * DENOMINATIONS + note.denomination;
+            let pair = note.holding.account * DENOMINATIONS + note.holding.denomination;
             if let Some(earlier) = seen[pair] {
                 return (earlier, index);
             }
@@ -41,11 +42,11 @@ pub(crate) fn find_pair(places: &[Place]) -> (usize, usize)
 // Two notes of one owner and denomination as one.
 fn joint(first: Note, second: Note) -> Note
     requires { first.amount + second.amount ≤ most }
-    ensures { result ≡ joint_note first second }
+    ensures holding { result.holding ≡ first.holding }
+    ensures amount { result.amount ≡ first.amount + second.amount }
 {
     Note {
-        owner: first.owner,
-        denomination: first.denomination,
+        holding: first.holding,
         amount: first.amount + second.amount,
     }
 }
@@ -54,12 +55,10 @@ fn joint(first: Note, second: Note) -> Note
 pub(crate) fn join(places: &mut [Place], first: usize, second: usize)
     requires order { first < second }
     requires within { second < length places.old }
-    requires notes { Proper places.old }
     requires alike { Alike (slice_index_or places.old first None) (slice_index_or places.old second None) }
     requires fits { amount_of (slice_index_or places.old first None) + amount_of (slice_index_or places.old second None) ≤ most }
     ensures same { (a d : ℕ) → held places.new a d ≡ held places.old a d }
     ensures free { slice_index_or places.new second None ≡ None }
-    ensures notes { Proper places.new }
     ensures behind { (k : ℕ) → second < k → slice_index_or places.new k None ≡ slice_index_or places.old k None }
 {
     if let (Some(kept), Some(joined)) = (places[first], places[second]) {
@@ -68,19 +67,19 @@ pub(crate) fn join(places: &mut [Place], first: usize, second: usize)
     }
 }
 
-// Whether a note of that owner and denomination lies there.
-fn is_note_of(place: &Place, owner: usize, denomination: usize) -> bool
-    ensures { result ≡ belongs owner denomination place.now }
+// Whether a note of the holding lies there.
+fn is_note_of(place: &Place, holding: Holding) -> bool
+    ensures { result ≡ belongs holding.account holding.denomination place.now }
 {
-    place.is_some_and(|note| note.owner == owner && note.denomination == denomination)
+    place.is_some_and(|note| note.holding == holding)
 }
 
-// Frees each place with a note of that owner and denomination.
-pub(crate) fn release(places: &mut [Place], owner: usize, denomination: usize)
-    ensures { places.new ≡ map (released owner denomination) places.old }
+// Frees each place with a note of the holding.
+pub(crate) fn release(places: &mut [Place], holding: Holding)
+    ensures { places.new ≡ map (released holding.account holding.denomination) places.old }
 {
     for place in places.iter_mut() {
-        if is_note_of(place, owner, denomination) {
+        if is_note_of(place, holding) {
             *place = None;
         }
     }

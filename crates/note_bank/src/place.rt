@@ -1,28 +1,14 @@
-ghost use Rattle.note_bank.specs.Notes.{note_in};
+ghost use Rattle.std.specs.Prelude.{◌<◌};
 
-use sums::{Column, Row};
+use bank::Holding;
 
-/// An amount of a denomination that belongs to an account.
+/// An amount of a denomination that belongs to an account; it is at least 1.
 #[derive(Clone, Copy)]
 pub struct Note {
-    pub(crate) owner: usize,
-    pub(crate) denomination: usize,
+    pub(crate) holding: Holding,
     pub(crate) amount: u64,
+    ghost some: { 0 < amount },
 }
 
 /// A place of the bank's memory: it holds a note, or is free.
 pub type Place = Option<Note>;
-
-impl Row<Column> for Note {
-    ghost amount = { λ w n i. n.amount };
-
-    ghost counts = { note_in };
-
-    fn worth(&self, _which: &Column, _place: usize) -> u64 {
-        self.amount
-    }
-
-    fn chosen(&self, which: &Column, _place: usize) -> bool {
-        self.denomination == which.denomination && which.from <= self.owner && self.owner < which.to
-    }
-}

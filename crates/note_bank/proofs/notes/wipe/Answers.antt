@@ -1,6 +1,6 @@
 use Rattle.std.proofs.Common.{◌≡◌, ℕ, get_or, None, rules}
 use Rattle.ledger.proofs.Filled.{filled}
-use Rattle.note_bank.proofs.Shares.{free_balances, freed_supplies, free_proper}
+use Rattle.note_bank.proofs.Shares.{free_balances, freed_supplies}
 use Rattle.note_bank.proofs.notes.wipe.Goals as goal
 
 -- every place is free then
@@ -12,9 +12,3 @@ returns-clause-empty c = free_balances _ (free c)
 
 pub returns-clause-supplies : goal.returns-clause-supplies
 returns-clause-supplies c = freed_supplies _ (free c)
-
-pub returns-clause-notes : goal.returns-clause-notes
-returns-clause-notes c = free_proper _ (free c)
-
-pub returns-clause-free : goal.returns-clause-free
-returns-clause-free c = λ k h. free c k

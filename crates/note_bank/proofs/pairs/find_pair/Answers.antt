@@ -1,7 +1,7 @@
-use Rattle.std.proofs.Common.{◌≡◌, ℕ, ◌+◌, ◌*◌, ◌<◌, true, List, length, is_some, Some, Option, sym, refl, ap, ◌∙◌, subst, arith, length-set}
-use Rattle.std.proofs.lemmas.Bool.Decides.{nat_tests}
+use Rattle.std.proofs.Common.{◌∙◌, ◌≡◌, ℕ, ◌+◌, ◌*◌, ◌<◌, List, length, is_some, Option, sym, refl, ap, subst, arith, length-set, None}
+use Rattle.std.proofs.lemmas.List.{get_or_read}
 use Rattle.sums.specs.Sums.{count}
-use Rattle.note_bank.specs.Notes.{proper, pair_of}
+use Rattle.note_bank.specs.Notes.{pair_of}
 use Rattle.note_bank.proofs.Seen.{Noted, count_most, count_more, none_seen, noted_more}
 use Rattle.note_bank.proofs.pairs.find_pair.Goals as goal
 use Rattle.note_bank.proofs.pairs.find_pair.Goals.{in-Some+in_default-seen, in_default}
@@ -9,37 +9,31 @@ use Rattle.note_bank.proofs.pairs.find_pair.Goals.{in-Some+in_default-seen, in_d
 pub loop-index-init : goal.loop-index-init
 loop-index-init c = (refl, λ q k e. absurd (none_seen 768 k q e), refl)
 
-pub returns-in-Some-seen : goal.returns-in-Some-seen
-returns-in-Some-seen c =
-    let pair = c.in-Some.note.owner * 32 + c.in-Some.note.denomination in
-    let noted = c.loop-index.invariant.1 pair c.in-Some-seen.earlier c.in-Some-seen.is in
-    let here : pair_of _ ≡ Some pair = ap pair_of c.in-Some.is in
-    record {
-      order = noted.0;
-      within = c.loop-index-test.true;
-      alike = (ap is_some noted.1, noted.1 ∙ sym here);
-    }
+pub returns-in-Some-seen-clause-order : goal.returns-in-Some-seen-clause-order
+returns-in-Some-seen-clause-order c =
+    let noted = c.loop-index.invariant.1 (c.in-Some.note.holding.account * 32 + c.in-Some.note.holding.denomination) c.in-Some-seen.earlier c.in-Some-seen.is in
+    noted.0
 
 pub loop-index-preserved : goal.loop-index-preserved
 loop-index-preserved c =
     let xs = c.args.places.now in
     let seen = c.loop-index.seen in
     let i = c.loop-index.index in
+    let read = get_or_read xs i c.index-places-index.result c.loop-index-test.true c.index-places-index.is None in
     let Kept : List (Option ℕ) → Type 0 = λ s. (count is_some s ≡ i + 1) × Noted xs s (i + 1) × (length s ≡ 768) in
     elim c.match-place.branch [
       | in-Some+in_default-seen w ↦
           let n = w.in-Some.note in
-          let pair = n.owner * 32 + n.denomination in
-          let note : proper (Some n) ≡ true = rw w.in-Some.is at (c.requires.notes i) in
-          let small : pair < 768 = grind (arith, nat_tests) in
+          let pair = n.holding.account * 32 + n.holding.denomination in
+          let small : pair < 768 = omega (arith, n.holding.account_known, n.holding.denomination_known) in
           let within : pair < length seen = omega (arith, c.loop-index.invariant.2) in
           subst Kept (sym w.seen-is) (
             count_more xs seen i pair within w.in_default-seen.is c.loop-index.invariant.0,
-            noted_more xs seen i pair within w.in_default-seen.is c.loop-index.invariant.1 (ap pair_of w.in-Some.is),
+            noted_more xs seen i pair within w.in_default-seen.is c.loop-index.invariant.1 (ap pair_of (sym read ∙ w.in-Some.is)),
             rw length-set c.loop-index.invariant.2,
           )
       | in_default w ↦
-          let held = rw w.in_default.is at (c.requires.full i c.loop-index-test.true) in
+          let held = rw (sym read ∙ w.in_default.is) at (c.requires.full i c.loop-index-test.true) in
           let z : ◌≡◌ {A = ℕ} 0 1 = cc in
           absurd (omega arith)
     ]

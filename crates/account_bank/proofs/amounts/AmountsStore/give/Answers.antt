@@ -7,4 +7,4 @@ use Rattle.account_bank.proofs.amounts.AmountsStore.give.Goals as goal
 pub overflow_add-old : goal.overflow_add-old
 overflow_add-old c =
     let b = table_balances (vec_items c.args.self.now.amounts) in
-    omega (arith, balance_in_supply b 0 c.args.account c.args.denomination c.requires.account, c.at-old.ensures)
+    omega (arith, balance_in_supply b 0 c.args.holding.account c.args.holding.denomination c.args.holding.account_known, c.at-old.ensures)

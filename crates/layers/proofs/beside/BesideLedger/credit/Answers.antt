@@ -1,34 +1,25 @@
 use Rattle.std.proofs.Common.{Ok, subst}
-use Rattle.protocol.specs.Ledger.{Ledger}
 use Rattle.ledger.proofs.Answers.{handed_on, answered}
 use Rattle.layers.specs.Layers.{beside}
 use Rattle.layers.specs.Sides.{OnSide}
 use Rattle.layers.specs.declared.beside.Side.{Side}
-use Rattle.layers.proofs.Sides.{first_credit, first_credited, second_credit, second_credited}
+use Rattle.layers.proofs.Sides.{first_credit, second_credited}
 use Rattle.layers.proofs.beside.BesideLedger.credit.Goals as goal
 
-pub returns-in-First : goal.returns-in-First
-returns-in-First g c =
+pub returns-in-First-clause-answer : goal.returns-in-First-clause-answer
+returns-in-First-clause-answer g c =
     let m = g.L.Ledger.meaning c.args.self.now.first in
     let k = g.R.Ledger.meaning c.args.self.now.second in
     let at = c.args in
     let on = subst (λ (s : Side). OnSide m.chains at.chain (Ok s)) c.in-First.is c.in_ok-chain.ensures in
     let told = rw on.2 at c.credit.ensures.answer in
-    let left = rw on.2 at c.credit.ensures.after in
-    record {
-      answer = answered tt _ _ _ told (first_credit m k at.chain on.0 on.1 at.account at.denomination at.amount);
-      after = handed_on (λ (x : Ledger). beside x k) c.credit.result m _ _ _ left (first_credited m k at.chain on.0 on.1 at.account at.denomination at.amount);
-    }
+    answered tt _ _ _ told (first_credit m k at.chain on.0 on.1 at.account at.denomination at.amount)
 
-pub returns-in-Second : goal.returns-in-Second
-returns-in-Second g c =
+pub returns-in-Second-clause-after : goal.returns-in-Second-clause-after
+returns-in-Second-clause-after g c =
     let m = g.L.Ledger.meaning c.args.self.now.first in
     let k = g.R.Ledger.meaning c.args.self.now.second in
     let at = c.args in
     let on = subst (λ (s : Side). OnSide m.chains at.chain (Ok s)) c.in-Second.is c.in_ok-chain.ensures in
-    let told = rw on.2 at c.credit-in-Second.ensures.answer in
     let left = rw on.2 at c.credit-in-Second.ensures.after in
-    record {
-      answer = answered tt _ _ _ told (second_credit m k at.chain on.0 on.1 at.account at.denomination at.amount);
-      after = handed_on (beside m) c.credit-in-Second.result k _ _ _ left (second_credited m k at.chain on.0 on.1 at.account at.denomination at.amount);
-    }
+    handed_on (beside m) c.credit-in-Second.result k _ _ _ left (second_credited m k at.chain on.0 on.1 at.account at.denomination at.amount)

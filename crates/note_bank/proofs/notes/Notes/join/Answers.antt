@@ -1,31 +1,16 @@
-use Rattle.std.proofs.Common.{◌≡◌, ℕ, ◌<◌, ◌≤◌, List, length, get_or, take, sym, refl, ap, ◌∙◌, subst, arith, length-take-le, get_or-take, None}
+use Rattle.std.proofs.Common.{◌≡◌, ℕ, ◌<◌, ◌≤◌, List, length, get_or, sym, ap, ◌∙◌, subst, arith, get_or-take, None}
 use Rattle.ledger.proofs.Lent.{lent_whole}
 use Rattle.protocol.specs.House.{most}
 use Rattle.protocol.specs.Ledger.{Balances, supply}
-use Rattle.note_bank.specs.Notes.{Proper, FreeFrom, Full, Alike, held, note_balances, Place}
-use Rattle.note_bank.proofs.Fronts.{front_proper, in_front}
+use Rattle.note_bank.specs.Notes.{FreeFrom, Alike, held, note_balances, Place}
+use Rattle.note_bank.proofs.Fronts.{in_front}
 use Rattle.note_bank.proofs.Joins.{joint_fits}
 use Rattle.note_bank.proofs.Shares.{balances_same}
 use Rattle.note_bank.proofs.notes.Notes.join.Goals as goal
 
--- the places used hold a pair
-pub find_pair-first-requires : goal.find_pair-first-requires
-find_pair-first-requires c =
-    let bank = c.args.self.now in
-    let xs = bank.places.items in
-    let l = bank.places.ok.0 in
-    let within : bank.used ≤ length xs = omega (arith, bank.front) in
-    let front : take bank.used xs ≡ c.front.result.now = sym c.front.ensures in
-    let many : 768 < length (take bank.used xs) = rw length-take-le (omega (arith, c.requires.served)) in
-    record {
-      full = subst Full front c.requires.full;
-      many = subst (λ (ys : List Place). 768 < length ys) front many;
-      notes = subst Proper front (front_proper bank.used xs within bank.notes);
-    }
-
 -- the pair that was found can be joined
-pub join-requires : goal.join-requires
-join-requires c =
+pub join-requires-clause-fits : goal.join-requires-clause-fits
+join-requires-clause-fits c =
     let bank = c.args.self.now in
     let xs = bank.places.items in
     let l = bank.places.ok.0 in
@@ -39,43 +24,37 @@ join-requires c =
     let within : j < length xs = omega arith in
     let alike : Alike (get_or xs i None) (get_or xs j None) =
     rw (get_or-take bank.used xs i None before, get_or-take bank.used xs j None found) at (subst (λ (ys : List Place). Alike (get_or ys i None) (get_or ys j None)) c.front.ensures c.find_pair-first.ensures.alike) in
-    let fits = joint_fits xs i j order within (omega (arith, c.requires.served)) bank.notes alike bank.supplies in
-    record {
-      order = order;
-      within = rw lent at within;
-      notes = subst Proper lent bank.notes;
-      alike = subst (λ (ys : List Place). Alike (get_or ys i None) (get_or ys j None)) lent alike;
-      fits = rw lent at fits;
-    }
+    let fits = joint_fits xs i j order within (omega (arith, c.requires.served)) alike bank.supplies in
+    rw lent at fits
 
-pub invariant_of-self : goal.invariant_of-self
-invariant_of-self c =
+-- What is joined are the places that were lent, whole, and they hold what they held.
+
+pub invariant_of-self-clause-supplies : goal.invariant_of-self-clause-supplies
+invariant_of-self-clause-supplies c =
+    let bank = c.args.self.now in
+    let l = bank.places.ok.0 in
+    let same : length c.join.new.places ≡ length bank.places.items = omega (arith, c.join.auto.places) in
+    let whole = lent_whole bank.places.len c.join.new.places bank.places.items (omega arith) same in
+    let balances = balances_same bank.places.items c.join.new.places same (λ a d. c.join.ensures.same a d ∙ ap (λ (zs : List Place). held zs a d) c.deref_mut.ensures.value) in
+    let Law : Balances → Type 0 = λ b. (c' d : ℕ) → supply b c' d ≤ most in
+    subst Law (sym (ap note_balances whole ∙ balances)) bank.supplies
+
+pub invariant_of-self-clause-rest : goal.invariant_of-self-clause-rest
+invariant_of-self-clause-rest c =
     let bank = c.args.self.now in
     let xs = bank.places.items in
-    let ys = c.join.new.places in
     let l = bank.places.ok.0 in
-    let same : length ys ≡ length xs = omega (arith, c.join.auto.places) in
     let short : bank.used ≤ length xs = omega (arith, bank.front) in
     let found = in_front bank.used c.find_pair-first.result.1 xs c.front.result.now short c.front.ensures c.find_pair-first.ensures.within in
-    let whole = lent_whole bank.places.len ys xs (omega arith) same in
-    let balances = balances_same xs ys same (λ a d. c.join.ensures.same a d ∙ ap (λ (zs : List Place). held zs a d) c.deref_mut.ensures.value) in
-    let rest : FreeFrom bank.used ys =
+    let whole = lent_whole bank.places.len c.join.new.places xs (omega arith) (omega (arith, c.join.auto.places)) in
+    let rest : FreeFrom bank.used c.join.new.places =
     λ k h. c.join.ensures.behind k (omega arith) ∙ ap (λ (zs : List Place). get_or zs k None) c.deref_mut.ensures.value ∙ bank.rest k h in
-    let Law : Balances → Type 0 = λ b. (c' d : ℕ) → supply b c' d ≤ most in record { supplies = subst Law (sym (ap note_balances whole ∙ balances)) bank.supplies; notes = subst Proper (sym whole) c.join.ensures.notes; front = bank.front; rest = subst (FreeFrom bank.used) (sym whole) rest }
+    subst (FreeFrom bank.used) (sym whole) rest
 
-pub returns : goal.returns
-returns c =
+pub returns-clause-after : goal.returns-clause-after
+returns-clause-after c =
     let bank = c.args.self.now in
-    let xs = bank.places.items in
-    let ys = c.join.new.places in
     let l = bank.places.ok.0 in
-    let same : length ys ≡ length xs = omega (arith, c.join.auto.places) in
-    let short : bank.used ≤ length xs = omega (arith, bank.front) in
-    let whole = lent_whole bank.places.len ys xs (omega arith) same in
-    let j = c.find_pair-first.result.1 in
-    record {
-      len = refl;
-      after = ap note_balances whole ∙ balances_same xs ys same (λ a d. c.join.ensures.same a d ∙ ap (λ (zs : List Place). held zs a d) c.deref_mut.ensures.value);
-      within = in_front bank.used j xs c.front.result.now short c.front.ensures c.find_pair-first.ensures.within;
-      free = ap (λ (zs : List Place). get_or zs j None) whole ∙ c.join.ensures.free;
-    }
+    let same : length c.join.new.places ≡ length bank.places.items = omega (arith, c.join.auto.places) in
+    ap note_balances (lent_whole bank.places.len c.join.new.places bank.places.items (omega arith) same)
+    ∙ balances_same bank.places.items c.join.new.places same (λ a d. c.join.ensures.same a d ∙ ap (λ (zs : List Place). held zs a d) c.deref_mut.ensures.value)

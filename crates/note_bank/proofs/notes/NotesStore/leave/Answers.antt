@@ -8,6 +8,6 @@ use Rattle.note_bank.proofs.notes.NotesStore.leave.Goals as goal
 pub give-requires-clause-fits : goal.give-requires-clause-fits
 give-requires-clause-fits c =
     let b = note_balances (vec_items c.args.self.now.places) in
-    let left = supply_put b 0 c.args.account c.args.denomination 0 c.requires.account in
-    let now = ap (λ (x : Balances). supply x 0 c.args.denomination) c.release.ensures.after in
-    omega (arith, left, now, c.requires.rest, c.args.self.now.supplies 0 c.args.denomination)
+    let left = supply_put b 0 c.args.holding.account c.args.holding.denomination 0 c.args.holding.account_known in
+    let now = ap (λ (x : Balances). supply x 0 c.args.holding.denomination) c.release.ensures in
+    omega (arith, left, now, c.requires, c.args.self.now.supplies 0 c.args.holding.denomination)

@@ -2,7 +2,7 @@ use Rattle.std.proofs.Common.{◌≡◌, ℕ, vec_items, refl, ◌∙◌, arith}
 use Rattle.sums.specs.Sums.{sum_below}
 use Rattle.sums.proofs.Below.{sum_front}
 use Rattle.note_bank.specs.Notes.{note_balances}
-use Rattle.note_bank.proofs.Shares.{kept_on, column_counted}
+use Rattle.note_bank.proofs.Shares.{column_counted}
 use Rattle.note_bank.proofs.notes.NotesStore.sum_of.Goals as goal
 
 -- what `add_up` gives is the sum over the accounts
@@ -11,7 +11,7 @@ sum_is c =
     let bank = c.args.self.now in
     let l = bank.places.ok.0 in
     (rw c.front.ensures at c.add_up.ensures.sum)
-    ∙ column_counted (record { denomination = c.args.denomination; from = 0; to = c.args.accounts }) bank.used (vec_items bank.places) bank.rest (kept_on _ c.requires.served) c.requires.denomination refl c.requires.accounts
+    ∙ column_counted (record { denomination = c.args.denomination; from = 0; to = c.args.accounts }) bank.used (vec_items bank.places) bank.rest (omega (arith, c.args.self.now.large)) c.requires.denomination refl c.requires.accounts
 
 -- it is at most the supply
 pub overflow_cast-result : goal.overflow_cast-result
