@@ -1,5 +1,5 @@
 -- A write to the part of a buffer from a place on.
-use Rattle.std.proofs.Common.{◌≡◌, ℕ, ◌+◌, ◌-◌, ◌≤◌, List, [], ◌∷◌, ◌++◌, length, take, drop, sym, refl, ap, ◌∙◌, append_assoc, append-nil, arith, length-append, length-drop, length-take, length-take-le, take-append-drop}
+use Rattle.std.proofs.Common.{◌≡◌, ℕ, ◌+◌, ◌-◌, ◌≤◌, List, [], ◌∷◌, ◌++◌, length, take, drop, sym, refl, ap, ◌∙◌, subst, append_assoc, append-nil, arith, length-append, length-drop, length-take, length-take-le, take-append-drop}
 use borrow.Rule.Slice.PartMut.{put_mid}
 use Rattle.std.proofs.lemmas.List.{drop_all, drop-drop, take_rest, take_at, drop_at}
 use Rattle.figures.specs.Figures.{over, into, spaced}
@@ -46,9 +46,17 @@ then_more a b l m n first more =
 pub space_more : (w : List ℕ) (l m n : Line) → Appends (32 ∷ []) l m → Appends w m n → Appends (32 ∷ w) l n
 space_more w l m n space more = then_more (32 ∷ []) w l m n space more
 
+-- the last word with its space
+pub last_word : (w : List ℕ) (l m : Line) → Appends (32 ∷ w) l m → Appends (spaced (w ∷ [])) l m
+last_word w l m last = let P : List ℕ → Type 0 = λ text. Appends text l m in subst P (sym (append-nil (32 ∷ w))) last
+
 -- a word with its space, and then others with theirs
 pub word_more : (w : List ℕ) (ws : List (List ℕ)) (l m n : Line) → Appends (32 ∷ w) l m → Appends (spaced ws) m n → Appends (spaced (w ∷ ws)) l n
 word_more w ws l m n first more = then_more (32 ∷ w) (spaced ws) l m n first more
+
+-- a line that had nothing has that text and no other, over what its buffer held
+pub all_written : (text before : List ℕ) (l m : Line) → l.at ≡ 0 → l.buffer.now ≡ before → Appends text l m → (m.at ≡ length text) × (m.buffer.now ≡ over text before)
+all_written text before l m none held wrote = (omega (arith, wrote.at), wrote.buffer ∙ (λ i. into text (none i) (held i)))
 
 -- A text laid over the front of a buffer that has room for it is within the buffer, and can be read there.
 module _ (n : ℕ) (text before after : List ℕ) (long : n ≡ length text) (laid-over : after ≡ over text before) where
