@@ -1,18 +1,12 @@
 -- A line of words, written piece by piece and ended by LF.
-use Rattle.std.proofs.Common.{◌≡◌, ℕ, Bool, true, false, cond, List, [], ◌∷◌, ◌++◌, length, Some, None, Option, refl, ap, ◌∙◌, subst, append_assoc, arith}
-use Rattle.figures.specs.Figures.{spaced, line_of, over, Holds}
+use Rattle.std.proofs.Common.{◌≡◌, ℕ, Bool, true, false, cond, List, [], ◌∷◌, ◌++◌, length, Some, None, Option, refl, ap, ◌∙◌, append_assoc, arith}
+use Rattle.figures.specs.Figures.{spaced, line_of, over}
 use Rattle.protocol.specs.Audit.{line}
 
 -- a line of words is its first word, and the others with a space before each
 pub first_and_others : (w : List ℕ) (ws : List (List ℕ)) → line_of w ws ≡ line (w ∷ ws)
 first_and_others w [] = refl
 first_and_others w (v ∷ ws) = ap (λ (t : List ℕ). w ++ 32 ∷ t) (append_assoc v (spaced ws) (10 ∷ []) ∙ first_and_others v ws)
-
--- what a buffer holds that has a word, others with their spaces, and LF
-pub line_held : (at : ℕ) (buffer first : List ℕ) (ws : List (List ℕ)) (before : List ℕ) → Holds at buffer ((first ++ spaced ws) ++ 10 ∷ []) before → Holds at buffer (line_of first ws) before
-line_held at buffer first ws before h =
-    let P : List ℕ → Type 0 = λ l. Holds at buffer l before in
-    subst P (append_assoc first (spaced ws) (10 ∷ [])) h
 
 -- A slot that has a line, and one that has none: what is answered, and what the buffer then holds.
 

@@ -1,6 +1,7 @@
 // The lines of an audit as text, each written over the front of a buffer; the bytes behind it keep their values.
-ghost use Rattle.std.specs.Prelude.{◌≡◌, ℕ, ◌+◌, ◌^◌, ◌<◌, ◌≤◌, List, [], ◌∷◌, ◌++◌, length, codes};
-ghost use Rattle.figures.specs.Figures.{figure, line_of, over, Holds};
+ghost use Rattle.std.specs.Prelude.{◌≡◌, ◌^◌, ◌<◌, ◌≤◌, [], ◌∷◌, length, codes};
+ghost use Rattle.figures.specs.Figures.{figure, line_of, over};
+ghost use Rattle.figures.specs.Lines.{HasRoom, Appends};
 ghost use Rattle.denom.specs.Text.{denom_text};
 ghost use Rattle.denom.specs.Views.{denom_view, symbol_of};
 
@@ -8,6 +9,7 @@ use denom::{Denomination, Symbol, write_denomination};
 use figures::Line;
 
 // How many tokens, links and packets there have been.
+#[tactic(auto, using(figures::proofs::Digits::length_figure_64, figures::proofs::Digits::length_figure_24))]
 pub(crate) fn put_counts(buffer: &mut [u8], tokens: usize, links: usize, packets: usize) -> usize
     requires { 256 ≤ length buffer.old }
     ensures length { result ≡ length (line_of (codes "audit") (figure tokens ∷ figure links ∷ figure packets ∷ [])) }
@@ -23,6 +25,7 @@ pub(crate) fn put_counts(buffer: &mut [u8], tokens: usize, links: usize, packets
 }
 
 // A token: its supply at home, what users hold of it, and its open packets.
+#[tactic(auto, using(figures::proofs::Digits::length_figure_64, figures::proofs::Digits::length_figure_24))]
 pub(crate) fn put_token(
     buffer: &mut [u8],
     chain: usize,
@@ -49,18 +52,18 @@ pub(crate) fn put_token(
 }
 
 // A space and a denomination.
+#[tactic(auto, using(figures::proofs::Parts::space_more))]
 fn denomination_word(line: &mut Line, denomination: &Denomination)
-    requires { line.old.at + 131 ≤ length line.old.buffer.now }
-    ensures room { length line.new.buffer.now ≡ length line.old.buffer.now }
-    ensures short { line.new.at ≤ line.old.at + 131 }
-    ensures holds { (xs before : List ℕ) → Holds line.old.at line.old.buffer.now xs before → Holds line.new.at line.new.buffer.now (xs ++ (32 ∷ denom_text (denom_view denomination.now))) before }
-    ensures lender { line.new.buffer.ghost_name ≡ line.old.buffer.ghost_name }
+    requires { HasRoom 131 line.old }
+    ensures short { length (denom_text (denom_view denomination.now)) ≤ 130 }
+    ensures text { Appends (32 ∷ denom_text (denom_view denomination.now)) line.old line.new }
 {
     line.bytes(b" ");
     write_denomination(line, denomination);
 }
 
 // The escrow of a denomination at an end of a link, and what it backs: its vouchers and its open packets.
+#[tactic(auto, using(figures::proofs::Digits::length_figure_64, figures::proofs::Digits::length_figure_24))]
 pub(crate) fn put_escrow(
     buffer: &mut [u8],
     link: usize,

@@ -15,7 +15,6 @@ use books::Book;
 use denom::{Denomination, TokenId};
 use ledger::Confined;
 use protocol::{CHAINS, DENOMINATIONS, LinkKind, Mark};
-use register::Key;
 use sums::Row;
 use tables::{Link, Packet, Standing, Tables};
 use world::World;
@@ -80,11 +79,7 @@ fn is_open<L: Confined, F: Book, S: Book>(world: &World<L, F, S>, packet: &Packe
 fn has_symbol(denomination: &Denomination, token: &TokenId) -> bool
     ensures { result ≡ same_list (denom_view denomination.now).symbol (token_view token.now).symbol }
 {
-    let here = TokenId {
-        chain: token.chain,
-        symbol: denomination.symbol,
-    };
-    here.is_same(token)
+    denomination.symbol == token.symbol
 }
 
 // The chain that a packet was sent from; 0 where its lane's link is not there.
@@ -123,7 +118,7 @@ impl<'a, L: Confined, F: Book, S: Book> Row<Traces<'a, L, F, S>> for Denominatio
 
     fn chosen(&self, which: &Traces<'a, L, F, S>, _place: usize) -> bool {
         has_symbol(self, which.token)
-            && home_of(which.world.tables(), which.chain, self).is_same(which.token)
+            && home_of(which.world.tables(), which.chain, self) == *which.token
     }
 }
 
@@ -138,7 +133,7 @@ impl<'a, L: Confined, F: Book, S: Book> Row<OnLane<'a, L, F, S>> for Packet {
 
     fn chosen(&self, which: &OnLane<'a, L, F, S>, _place: usize) -> bool {
         self.lane == which.lane
-            && self.denomination.is_same(which.denomination)
+            && self.denomination == *which.denomination
             && is_open(which.world, self)
     }
 }
@@ -159,7 +154,6 @@ impl<'a, L: Confined, F: Book, S: Book> Row<OfToken<'a, L, F, S>> for Packet {
                 which.world.tables(),
                 sending_chain(which.world.tables(), self),
                 &self.denomination,
-            )
-            .is_same(which.token)
+            ) == *which.token
     }
 }

@@ -1,0 +1,2 @@
+pub mod Denoms
+pub mod Spelt

@@ -150,9 +150,9 @@ fn words_in(name: Name, line: &[u8]) -> Result<Command, ScriptFault>
         Name::Retire => retire_in(line),
         Name::Pay => pay_in(line),
         Name::Send => send_in(line),
-        Name::Receive => Ok(Command::Receive(packet_in(line)?)),
-        Name::Ack => Ok(Command::Ack(packet_in(line)?)),
-        Name::Timeout => Ok(Command::Timeout(packet_in(line)?)),
+        Name::Receive => packet_in(line).map(Command::Receive),
+        Name::Ack => packet_in(line).map(Command::Ack),
+        Name::Timeout => packet_in(line).map(Command::Timeout),
         Name::Tick => tick_in(line),
         Name::Bar => {
             let (chain, user) = user_in(line)?;
@@ -174,9 +174,7 @@ fn command_in(line: &[u8]) -> Result<Command, ScriptFault>
     if !is_well_formed(line) {
         return Err(ScriptFault::BadByteOrSpace);
     }
-    let Some(name) = Name::of(word_at(line, 0)) else {
-        return Err(ScriptFault::UnknownCommand);
-    };
+    let name = Name::of(word_at(line, 0)).ok_or(ScriptFault::UnknownCommand)?;
     if count_words(line) != name.words() {
         return Err(ScriptFault::WrongNumberOfWords);
     }
@@ -193,8 +191,7 @@ pub fn parse_line(line: &[u8]) -> Result<Option<Command>, ScriptFault>
     if is_comment(line) {
         return Ok(None);
     }
-    let command = command_in(line)?;
-    Ok(Some(command))
+    command_in(line).map(Some)
 }
 
 /// Whether a script is too long for any of it to be carried out.

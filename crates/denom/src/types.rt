@@ -34,7 +34,7 @@ pub struct Denomination {
 }
 
 /// A token: the chain that issued it, and its symbol.
-#[derive(Clone, Copy, PartialEq, Eq)]
+#[derive(Clone, Copy, Eq, PartialEq)]
 pub struct TokenId {
     pub chain: usize,
     pub symbol: Symbol,

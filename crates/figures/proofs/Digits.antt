@@ -45,3 +45,7 @@ length_figure_le k n pos h =
 -- a number of 64 bits has at most 20 digits
 pub length_figure_64 : (n : ℕ) → n < 2 ^ 64 → length (figure n) ≤ 20
 length_figure_64 n h = length_figure_le 20 n (omega arith) (omega arith)
+
+-- a number below 10^24 has at most 24
+pub length_figure_24 : (n : ℕ) → n < 10 ^ 24 → length (figure n) ≤ 24
+length_figure_24 n h = length_figure_le 24 n (omega arith) h

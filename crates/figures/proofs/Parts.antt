@@ -1,8 +1,8 @@
 -- A write to the part of a buffer from a place on.
-use Rattle.std.proofs.Common.{◌≡◌, ℕ, ◌+◌, ◌-◌, ◌≤◌, List, [], ◌∷◌, ◌++◌, length, take, drop, sym, refl, ap, ◌∙◌, append_assoc, append-nil, arith, length-append, length-drop, length-take, length-take-le, take-append-drop}
+use Rattle.std.proofs.Common.{◌≡◌, ℕ, ◌+◌, ◌-◌, ◌≤◌, List, [], ◌∷◌, ◌++◌, length, take, drop, sym, refl, ap, ◌∙◌, subst, append_assoc, append-nil, arith, length-append, length-drop, length-take, length-take-le}
 use borrow.Rule.Slice.PartMut.{put_mid}
 use Rattle.std.proofs.lemmas.List.{drop_all, drop-drop, take_rest, take_at, drop_at}
-use Rattle.figures.specs.Figures.{over, into, spaced}
+use Rattle.figures.specs.Figures.{over, into, spaced, line_of, Holds}
 use Rattle.figures.specs.Lines.{Appends}
 use Rattle.figures.specs.declared.line.Line.{Line}
 
@@ -27,10 +27,6 @@ into_into a b at buf fits =
     ∙ append_assoc pre a (over b rest)
     ∙ ap (λ l. pre ++ l) (sym (append_assoc a b (drop (length b) rest)) ∙ ap (λ l. (a ++ b) ++ l) (drop-drop (length b) (length a) (drop at buf) ∙ ap (λ n. drop n (drop at buf)) (sym (length-append a b))))
 
--- nothing written
-pub nothing : (l : Line) → l.at ≤ length l.buffer.now → Appends [] l l
-nothing l fits = record { at = omega arith; fits = fits; room = refl; buffer = sym (take-append-drop l.at l.buffer.now); lender = refl }
-
 -- a text and then another
 pub then_more : (a b : List ℕ) (l m n : Line) → Appends a l m → Appends b m n → Appends (a ++ b) l n
 then_more a b l m n first more =
@@ -46,9 +42,39 @@ then_more a b l m n first more =
 pub space_more : (w : List ℕ) (l m n : Line) → Appends (32 ∷ []) l m → Appends w m n → Appends (32 ∷ w) l n
 space_more w l m n space more = then_more (32 ∷ []) w l m n space more
 
--- a word with its space, and then others with theirs
-pub word_more : (w : List ℕ) (ws : List (List ℕ)) (l m n : Line) → Appends (32 ∷ w) l m → Appends (spaced ws) m n → Appends (spaced (w ∷ ws)) l n
-word_more w ws l m n first more = then_more (32 ∷ w) (spaced ws) l m n first more
+-- words are written, each with a space before it
+pub record Spaced (ws : List (List ℕ)) (before after : Line) : Type 0 where
+  pub wrote : Appends (spaced ws) before after
+
+-- the last of them
+pub last_word : {w : List ℕ} {l m : Line} → Appends (32 ∷ w) l m → Spaced (w ∷ []) l m
+last_word {w} {l} {m} last = let P : List ℕ → Type 0 = λ text. Appends text l m in record { wrote = subst P (sym (append-nil (32 ∷ w))) last }
+
+-- one word, and then others
+pub word_more : {w : List ℕ} {ws : List (List ℕ)} {l m n : Line} → Appends (32 ∷ w) l m → Spaced ws m n → Spaced (w ∷ ws) l n
+word_more {w} {ws} {l} {m} {n} first more = record { wrote = then_more (32 ∷ w) (spaced ws) l m n first more.wrote }
+
+-- one piece after another
+pub into_over : (xs ds base : List ℕ) → into ds (length xs) (over xs base) ≡ over (xs ++ ds) base
+into_over xs ds base =
+    (λ i. take_at xs (drop (length xs) base) (length xs) refl i ++ over ds (drop_at xs (drop (length xs) base) (length xs) refl i))
+    ∙ ap (λ l. xs ++ (ds ++ l)) (drop-drop (length ds) (length xs) base ∙ ap (λ n. drop n base) (sym (length-append xs ds)))
+    ∙ sym (append_assoc xs ds (drop (length (xs ++ ds)) base))
+
+-- what a buffer holds then, if it held a text before
+holds_more :
+    (xs text before : List ℕ) (l m : Line) → Holds l.at l.buffer.now xs before → Appends text l m →
+    Holds m.at m.buffer.now (xs ++ text) before
+holds_more xs text before l m held wrote =
+    (omega (arith, wrote.at, held.0, length-append xs text), wrote.buffer ∙ (λ i. into text (held.0 i) (held.1 i)) ∙ into_over xs text before)
+
+-- a line that had nothing has a first word, others and LF
+pub line_written :
+    {first : List ℕ} {ws : List (List ℕ)} {l m n o : Line} (before : List ℕ) → Holds l.at l.buffer.now [] before →
+    Appends first l m → Spaced ws m n → Appends (10 ∷ []) n o → Holds o.at o.buffer.now (line_of first ws) before
+line_written {first} {ws} {l} {m} {n} {o} before none word others end =
+    holds_more [] (line_of first ws) before l o none
+    (then_more first (spaced ws ++ 10 ∷ []) l m o word (then_more (spaced ws) (10 ∷ []) m n o others.wrote end))
 
 -- A text laid over the front of a buffer that has room for it is within the buffer, and can be read there.
 module _ (n : ℕ) (text before after : List ℕ) (long : n ≡ length text) (laid-over : after ≡ over text before) where

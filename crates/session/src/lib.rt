@@ -197,8 +197,8 @@ pub fn answer_lines<L: Ledger, F: Book, S: Book>(
     ensures reached { (l : Meaning) (bs : Bool → BookMeaning) → Reached l bs (view L.Ledger.meaning F.Book.meaning S.Book.meaning world.old) → Reached l bs (view L.Ledger.meaning F.Book.meaning S.Book.meaning world.new) }
     ensures conserved { Conserves (view L.Ledger.meaning F.Book.meaning S.Book.meaning world.new) }
 {
-    let mut script = Script::over(text);
-    while let Some((number, line)) = script.next_line() {
+    let script = Script::over(text);
+    for (number, line) in script {
         answer_line(world, number, line, out)?;
     }
     Ok(())

@@ -7,6 +7,14 @@ mod tests {
     use denom::{Denomination, Symbol};
     use figures::read_number;
 
+    fn is_symbol(text: &[u8]) -> bool {
+        Symbol::try_from(text).is_ok()
+    }
+
+    fn is_denomination(text: &[u8]) -> bool {
+        Denomination::try_from(text).is_ok()
+    }
+
     #[test]
     fn a_script_has_at_most_65536_bytes(rt: HostRuntime) {
         let most = [b'#'; 65536];
@@ -39,51 +47,43 @@ mod tests {
 
     #[test]
     fn symbols_have_at_most_16_letters(rt: HostRuntime) {
-        assert!(rt; Symbol::of(b"a").is_ok());
-        assert!(rt; Symbol::of(b"abcdefghijklmnop").is_ok());
-        assert!(rt; Symbol::of(b"abcdefghijklmnopq").is_err());
-        assert!(rt; Symbol::of(b"a1z9").is_ok());
-        assert!(rt; Symbol::of(b"1a").is_err());
-        assert!(rt; Symbol::of(b"aB").is_err());
-        assert!(rt; Symbol::of(b"a/b").is_err());
-        assert!(rt; Symbol::of(b"").is_err());
+        assert!(rt; is_symbol(b"a"));
+        assert!(rt; is_symbol(b"abcdefghijklmnop"));
+        assert!(rt; !is_symbol(b"abcdefghijklmnopq"));
+        assert!(rt; is_symbol(b"a1z9"));
+        assert!(rt; !is_symbol(b"1a"));
+        assert!(rt; !is_symbol(b"aB"));
+        assert!(rt; !is_symbol(b"a/b"));
+        assert!(rt; !is_symbol(b""));
     }
 
     #[test]
     fn denominations_have_at_most_6_hops(rt: HostRuntime) {
-        assert!(rt; Denomination::of(b"transfer").is_ok());
-        assert!(rt; Denomination::of(b"transfer/channel-7/gold").is_ok());
-        assert!(rt; Denomination::of(b"transfer/channel-8/gold").is_err());
-        assert!(rt; Denomination::of(b"transfer/channel-00/gold").is_err());
-        assert!(rt; Denomination::of(b"transfer/channel-0/").is_err());
-        assert!(rt; Denomination::of(b"transfer/channel-0gold").is_err());
+        assert!(rt; is_denomination(b"transfer"));
+        assert!(rt; is_denomination(b"transfer/channel-7/gold"));
+        assert!(rt; !is_denomination(b"transfer/channel-8/gold"));
+        assert!(rt; !is_denomination(b"transfer/channel-00/gold"));
+        assert!(rt; !is_denomination(b"transfer/channel-0/"));
+        assert!(rt; !is_denomination(b"transfer/channel-0gold"));
         let six =
             b"transfer/channel-0/transfer/channel-1/transfer/channel-2/transfer/channel-3/transfer/channel-4/transfer/channel-5/g";
         let seven =
             b"transfer/channel-0/transfer/channel-1/transfer/channel-2/transfer/channel-3/transfer/channel-4/transfer/channel-5/transfer/channel-6/g";
-        assert!(rt; Denomination::of(six).is_ok());
-        assert!(rt; Denomination::of(seven).is_err());
+        assert!(rt; is_denomination(six));
+        assert!(rt; !is_denomination(seven));
     }
 
     #[test]
     fn an_answer_keeps_what_stands_behind_it(rt: HostRuntime) {
         let mut small = [7; 63];
         assert_eq!(rt; write_answer(&mut small, 1, Ok(Reply::Done)), None);
-        assert_eq!(rt; small[0], 7);
+        assert!(rt; small == [7; 63]);
         let mut room = [7; 64];
         assert_eq!(rt;
             write_answer(&mut room, 12, Ok(Reply::Number(345))),
             Some(10)
         );
-        assert!(rt;
-            room[0] == b'1'
-                && room[1] == b'2'
-                && room[2] == b' '
-                && room[3] == b'o'
-                && room[4] == b'k'
-        );
-        assert!(rt;
-            room[6] == b'3' && room[8] == b'5' && room[9] == b'\n' && room[10] == 7 && room[63] == 7
-        );
+        assert!(rt; room.starts_with(b"12 ok 345\n"));
+        assert!(rt; room[10..] == [7; 54]);
     }
 }

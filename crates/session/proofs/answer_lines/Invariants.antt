@@ -1,7 +1,8 @@
-use Rattle.std.proofs.Common.{◌≡◌, Bool, length, drop}
+use Rattle.std.proofs.Common.{◌≡◌, Bool}
 use Rattle.protocol.specs.Book.{Book}
 use Rattle.protocol.specs.Ledger.{Ledger}
 use Rattle.script.specs.Lines.{pieces, lines}
+use Rattle.script.specs.Readers.{left}
 use Rattle.world.specs.View.{view}
 use Rattle.session.specs.Conservation.{Reached}
 use Rattle.session.specs.Session.{script_after}
@@ -12,9 +13,6 @@ invariant-loop-number g l =
     ((m : Ledger) (bs : Bool → Book) →
     Reached m bs (view g.L.Ledger.meaning g.F.Book.meaning g.S.Book.meaning l.initial.world) →
     Reached m bs (view g.L.Ledger.meaning g.F.Book.meaning g.S.Book.meaning l.world))
-    × (l.script.lines.end ≡ 10)
-    × (script_after (view g.L.Ledger.meaning g.F.Book.meaning g.S.Book.meaning l.world) (pieces 10 (drop l.script.lines.at l.script.lines.text.now)) ≡
+    × (l.number-iterator.lines.end ≡ 10)
+    × (script_after (view g.L.Ledger.meaning g.F.Book.meaning g.S.Book.meaning l.world) (pieces 10 (left l.number-iterator.lines)) ≡
     script_after (view g.L.Ledger.meaning g.F.Book.meaning g.S.Book.meaning l.initial.world) (lines l.text))
-
-abbrev pub decreases-loop-number : goal.decreases-loop-number
-decreases-loop-number g l = length (pieces l.script.lines.end (drop l.script.lines.at l.script.lines.text.now))
