@@ -12,10 +12,10 @@ use Rattle.protocol.specs.Ledger.{supply, users_hold}
 use Rattle.protocol.specs.World as protocol
 use Rattle.protocol.specs.World.{World, is_open, supply_of, home_of, held, no_denom}
 use Rattle.tables.specs.declared.types.Packet.{Packet}
-use Rattle.tables.specs.declared.types.Links.{Links}
-use Rattle.tables.specs.declared.types.Packets.{Packets}
-use Rattle.tables.specs.declared.types.Tokens.{Tokens}
-use Rattle.tables.specs.View.{link_view, links_in, packet_view, packets_in, tokens_in}
+use Rattle.tables.specs.declared.types.Rows.{Rows}
+use Rattle.tables.specs.Rows.{rows_of}
+use Rattle.tables.specs.View.{packet_view, packets_in}
+use Rattle.tables.proofs.Taken.{few_rows}
 use Rattle.tables.proofs.Kept.{number_some}
 use Rattle.audit.specs.Figures.{held_on}
 
@@ -34,16 +34,8 @@ open_counted w test ps e =
     ∙ ap (total (λ (p : protocol.Packet). gate (is_open w p && test p) p.amount)) e
 
 -- there are at most 512 packets
-pub few_packets : (t : Packets) (ps : List Packet) → map packet_view ps ≡ packets_in t → length ps ≤ 512
-few_packets t ps e =
-    omega (
-      arith,
-      t.few,
-      length-map ps packet_view,
-      ap length e,
-      length-map (take t.count t.rows) packet_view,
-      length-take t.count t.rows,
-    )
+pub few_packets : (t : Rows Packet 512) (ps : List Packet) → map packet_view ps ≡ packets_in t → length ps ≤ 512
+few_packets t ps e = omega (arith, few_rows t, length-map ps packet_view, ap length e, length-map (rows_of t) packet_view)
 
 -- a supply by the number that was found, or by none
 supply_found : (w : World) (c n : ℕ) (e : Denom) → number_of (same_denom e) (w.register c) ≡ Some n → supply w.ledger.balance c n ≡ supply_of w c e
@@ -97,10 +89,3 @@ sum_more n f = rw add-one refl
 pub held_all : (w : World) (t : Token) (n : ℕ) → n ≡ 8 → sum_below n (held_on w t) ≡ held w t
 unfolding held_on
 held_all w t n e = ap (λ (k : ℕ). sum_below k (held_on w t)) e
-
--- there are at most 64 tokens and 16 links
-pub few_tokens : (t : Tokens) → length (tokens_in t) ≤ 64
-few_tokens t = omega (arith, t.few, length-map (take t.count t.keys) token_view, length-take t.count t.keys)
-
-pub few_links : (t : Links) → length (links_in t) ≤ 16
-few_links t = omega (arith, t.few, length-map (take t.count t.rows) link_view, length-take t.count t.rows)

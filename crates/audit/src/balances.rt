@@ -13,34 +13,25 @@ pub(crate) fn balance_at<L: Confined>(
     requires chain { chain < 8 }
     requires account { account < 24 }
     requires number { number < 32 }
-    ensures { result ≡ (L.Ledger.meaning ledger.now).balance chain account number }
+    ensures { result ≡ (L.meaning ledger.now).balance chain account number }
 {
-    match ledger.balance(chain, account, number) {
-        Ok(amount) => amount,
-        Err(_) => 0,
-    }
+    ledger.balance(chain, account, number).unwrap_or(0)
 }
 
 // What all accounts of a chain have of a denomination; nothing where the chain is not served.
 pub(crate) fn supply_at<L: Confined>(ledger: &L, chain: usize, number: usize) -> u64
     requires chain { chain < 8 }
     requires number { number < 32 }
-    ensures { result ≡ supply_of (L.Ledger.meaning ledger.now).balance chain number }
+    ensures { result ≡ supply_of (L.meaning ledger.now).balance chain number }
 {
-    match ledger.supply(chain, number) {
-        Ok(amount) => amount,
-        Err(_) => 0,
-    }
+    ledger.supply(chain, number).unwrap_or(0)
 }
 
 // What a chain's users have of a denomination; nothing where the chain is not served.
 pub(crate) fn users_hold_at<L: Confined>(ledger: &L, chain: usize, number: usize) -> u64
     requires chain { chain < 8 }
     requires number { number < 32 }
-    ensures { result ≡ users_hold (L.Ledger.meaning ledger.now).balance chain number }
+    ensures { result ≡ users_hold (L.meaning ledger.now).balance chain number }
 {
-    match ledger.users_hold(chain, number) {
-        Ok(amount) => amount,
-        Err(_) => 0,
-    }
+    ledger.users_hold(chain, number).unwrap_or(0)
 }

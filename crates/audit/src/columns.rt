@@ -1,12 +1,11 @@
 // The figures of an audit. Each is a total of its own.
-ghost use Rattle.std.specs.Prelude.{◌≡◌, ◌+◌, ◌*◌, ◌<◌, ◌≤◌, map, length};
+ghost use Rattle.std.specs.Prelude.{◌≡◌, ◌+◌, ◌*◌, ◌<◌, ◌≤◌};
 ghost use Rattle.sums.specs.Sums.{sum_below};
 ghost use Rattle.denom.specs.Denomination.{behind};
 ghost use Rattle.denom.specs.Views.{denom_view, token_view};
 ghost use Rattle.protocol.specs.House.{escrow_account};
 ghost use Rattle.protocol.specs.Audit.{token_supply, token_open as open-of-token};
 ghost use Rattle.protocol.specs.World.{supply_of as supply_in, held as held_in, open_packets, on_lane_with};
-ghost use Rattle.tables.specs.View.{denoms_of};
 ghost use Rattle.world.specs.View.{view};
 ghost use Rattle.audit.specs.Figures.{held_on};
 
@@ -15,25 +14,10 @@ use super::rows::{OfToken, OnLane, Traces};
 use books::Book;
 use denom::{Denomination, TokenId};
 use ledger::Confined;
-use protocol::{CHAINS, DENOMINATIONS, escrow_account};
-use register::find_in;
+use protocol::{CHAINS, escrow_account};
 use sums::add_up;
-use tables::{Denominations, End, Route, Tables};
+use tables::{End, Route};
 use world::World;
-
-// A chain's denominations; none where there is no such chain.
-pub(crate) fn denominations_on(tables: &Tables, chain: usize) -> &[Denomination]
-    ensures known { map denom_view result.now ≡ denoms_of tables.now.denominations chain }
-    ensures few { length result.now ≤ 32 }
-    ensures chain { 0 < length result.now → chain < 8 }
-{
-    let rows: &[Denominations] = &tables.denominations;
-    if chain < rows.len() {
-        rows[chain].as_slice()
-    } else {
-        &[]
-    }
-}
 
 // What all accounts of a chain have of a denomination.
 pub(crate) fn supply_of<L: Confined, F: Book, S: Book>(
@@ -41,16 +25,10 @@ pub(crate) fn supply_of<L: Confined, F: Book, S: Book>(
     chain: usize,
     denomination: &Denomination,
 ) -> u64
-    ensures { result ≡ supply_in (view L.Ledger.meaning F.Book.meaning S.Book.meaning world.now) chain (denom_view denomination.now) }
+    ensures { result ≡ supply_in (view L.meaning F.meaning S.meaning world.now) chain (denom_view denomination.now) }
 {
-    match find_in(denominations_on(world.tables(), chain), denomination) {
-        Some(number) => {
-            if chain < CHAINS && number < DENOMINATIONS {
-                supply_at(world.ledger(), chain, number)
-            } else {
-                0
-            }
-        }
+    match world.tables().number_of(chain, denomination) {
+        Some(number) => supply_at(world.ledger(), chain, number),
         None => 0,
     }
 }
@@ -60,7 +38,7 @@ pub(crate) fn supply_of_token<L: Confined, F: Book, S: Book>(
     world: &World<L, F, S>,
     token: &TokenId,
 ) -> u64
-    ensures { result ≡ token_supply (view L.Ledger.meaning F.Book.meaning S.Book.meaning world.now) (token_view token.now) }
+    ensures { result ≡ token_supply (view L.meaning F.meaning S.meaning world.now) (token_view token.now) }
 {
     supply_of(world, token.chain, &Denomination::hopless(token.symbol))
 }
@@ -70,7 +48,7 @@ pub(crate) fn open_of_token<'a, L: Confined, F: Book, S: Book>(
     world: &'a World<L, F, S>,
     token: &'a TokenId,
 ) -> u128
-    ensures sum { result ≡ open-of-token (view L.Ledger.meaning F.Book.meaning S.Book.meaning world.now) (token_view token.now) }
+    ensures sum { result ≡ open-of-token (view L.meaning F.meaning S.meaning world.now) (token_view token.now) }
     ensures within { result ≤ 512 * 18446744073709551615 }
 {
     add_up(world.tables().packets.as_slice(), &OfToken { world, token })
@@ -82,7 +60,7 @@ pub(crate) fn open_on<'a, L: Confined, F: Book, S: Book>(
     lane: usize,
     denomination: &'a Denomination,
 ) -> u128
-    ensures sum { result ≡ open_packets (view L.Ledger.meaning F.Book.meaning S.Book.meaning world.now) (on_lane_with lane (denom_view denomination.now)) }
+    ensures sum { result ≡ open_packets (view L.meaning F.meaning S.meaning world.now) (on_lane_with lane (denom_view denomination.now)) }
     ensures within { result ≤ 512 * 18446744073709551615 }
 {
     add_up(
@@ -101,11 +79,11 @@ fn held_on<'a, L: Confined, F: Book, S: Book>(
     chain: usize,
     token: &'a TokenId,
 ) -> u128
-    ensures sum { result ≡ held_on (view L.Ledger.meaning F.Book.meaning S.Book.meaning world.now) (token_view token.now) chain }
+    ensures sum { result ≡ held_on (view L.meaning F.meaning S.meaning world.now) (token_view token.now) chain }
     ensures within { result ≤ 32 * 18446744073709551615 }
 {
     add_up(
-        denominations_on(world.tables(), chain),
+        world.tables().denominations_on(chain),
         &Traces {
             world,
             chain,
@@ -116,7 +94,7 @@ fn held_on<'a, L: Confined, F: Book, S: Book>(
 
 // What all users hold of a token, under every trace on every chain.
 pub(crate) fn held<L: Confined, F: Book, S: Book>(world: &World<L, F, S>, token: &TokenId) -> u128
-    ensures sum { result ≡ held_in (view L.Ledger.meaning F.Book.meaning S.Book.meaning world.now) (token_view token.now) }
+    ensures sum { result ≡ held_in (view L.meaning F.meaning S.meaning world.now) (token_view token.now) }
     ensures within { result ≤ 256 * 18446744073709551615 }
 {
     let mut sum: u128 = 0;
@@ -133,7 +111,7 @@ pub(crate) fn escrow_at<L: Confined, F: Book, S: Book>(
     number: usize,
 ) -> u64
     requires { number < 32 }
-    ensures { result ≡ (view L.Ledger.meaning F.Book.meaning S.Book.meaning world.now).ledger.balance near.now.chain (escrow_account near.now.channel) number }
+    ensures { result ≡ (view L.meaning F.meaning S.meaning world.now).ledger.balance near.now.chain (escrow_account near.now.channel) number }
 {
     balance_at(
         world.ledger(),
@@ -149,7 +127,7 @@ pub(crate) fn vouchers_of<L: Confined, F: Book, S: Book>(
     far: &End,
     denomination: &Denomination,
 ) -> u64
-    ensures { result ≡ supply_in (view L.Ledger.meaning F.Book.meaning S.Book.meaning world.now) far.now.chain (behind far.now.channel (denom_view denomination.now)) }
+    ensures { result ≡ supply_in (view L.meaning F.meaning S.meaning world.now) far.now.chain (behind far.now.channel (denom_view denomination.now)) }
 {
     match denomination.behind(far.channel) {
         Some(voucher) => supply_of(world, far.chain, &voucher),
@@ -164,7 +142,7 @@ fn open_vouchers<L: Confined, F: Book, S: Book>(
     far: &End,
     denomination: &Denomination,
 ) -> u128
-    ensures sum { result ≡ open_packets (view L.Ledger.meaning F.Book.meaning S.Book.meaning world.now) (on_lane_with lane (behind far.now.channel (denom_view denomination.now))) }
+    ensures sum { result ≡ open_packets (view L.meaning F.meaning S.meaning world.now) (on_lane_with lane (behind far.now.channel (denom_view denomination.now))) }
     ensures within { result ≤ 512 * 18446744073709551615 }
 {
     match denomination.behind(far.channel) {
@@ -180,7 +158,7 @@ pub(crate) fn open_across<L: Confined, F: Book, S: Book>(
     homeward: usize,
     denomination: &Denomination,
 ) -> u128
-    ensures sum { result ≡ open_packets (view L.Ledger.meaning F.Book.meaning S.Book.meaning world.now) (on_lane_with route.now.lane (denom_view denomination.now)) + open_packets (view L.Ledger.meaning F.Book.meaning S.Book.meaning world.now) (on_lane_with homeward (behind route.now.far.channel (denom_view denomination.now))) }
+    ensures sum { result ≡ open_packets (view L.meaning F.meaning S.meaning world.now) (on_lane_with route.now.lane (denom_view denomination.now)) + open_packets (view L.meaning F.meaning S.meaning world.now) (on_lane_with homeward (behind route.now.far.channel (denom_view denomination.now))) }
     ensures within { result ≤ 1024 * 18446744073709551615 }
 {
     open_on(world, route.lane, denomination)

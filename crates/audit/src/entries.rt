@@ -6,7 +6,7 @@ ghost use Rattle.audit.specs.Slots.{slot_at, has_escrow, has_line, line_in, slot
 ghost use Rattle.world.specs.View.{view};
 
 use super::columns::{
-    denominations_on, escrow_at, held, open_across, open_of_token, supply_of_token, vouchers_of,
+    escrow_at, held, open_across, open_of_token, supply_of_token, vouchers_of,
 };
 use super::lines::{put_counts, put_escrow, put_token};
 use super::slots::{Entry, Slot};
@@ -17,7 +17,7 @@ use world::World;
 
 // How many slots there are.
 pub(crate) fn count_slots<L: Confined, F: Book, S: Book>(world: &World<L, F, S>) -> usize
-    ensures { result ≡ slots (view L.Ledger.meaning F.Book.meaning S.Book.meaning world.now) }
+    ensures { result ≡ slots (view L.meaning F.meaning S.meaning world.now) }
 {
     let tokens = world.tables().tokens.len();
     let links = world.tables().links.len();
@@ -26,7 +26,7 @@ pub(crate) fn count_slots<L: Confined, F: Book, S: Book>(world: &World<L, F, S>)
 
 // The slot at a place.
 pub(crate) fn slot_of<L: Confined, F: Book, S: Book>(world: &World<L, F, S>, place: usize) -> Slot
-    ensures { result ≡ slot_at (length (view L.Ledger.meaning F.Book.meaning S.Book.meaning world.now).tokens) place }
+    ensures { result ≡ slot_at (length (view L.meaning F.meaning S.meaning world.now).tokens) place }
 {
     let tokens = world.tables().tokens.len();
     if place == 0 {
@@ -48,12 +48,12 @@ pub(crate) fn entry_at<L: Confined, F: Book, S: Book>(
     lane: usize,
     number: usize,
 ) -> Option<Entry>
-    ensures { MatchOption result (has_escrow (view L.Ledger.meaning F.Book.meaning S.Book.meaning world.now) lane number ≡ false) (λ e. Entered (view L.Ledger.meaning F.Book.meaning S.Book.meaning world.now) lane number e) }
+    ensures { MatchOption result (has_escrow (view L.meaning F.meaning S.meaning world.now) lane number ≡ false) (λ e. Entered (view L.meaning F.meaning S.meaning world.now) lane number e) }
 {
     let Some(route) = world.tables().links.route(lane / 2, lane % 2) else {
         return None;
     };
-    let known = denominations_on(world.tables(), route.near.chain);
+    let known = world.tables().denominations_on(route.near.chain);
     if number >= known.len() {
         return None;
     }
@@ -72,8 +72,8 @@ pub(crate) fn entry_at<L: Confined, F: Book, S: Book>(
 // Writes the line of the counts.
 fn write_counts<L: Confined, F: Book, S: Book>(world: &World<L, F, S>, buffer: &mut [u8]) -> usize
     requires { 256 ≤ length buffer.old }
-    ensures length { result ≡ length (count_line (view L.Ledger.meaning F.Book.meaning S.Book.meaning world.now)) }
-    ensures buffer { buffer.new ≡ over (count_line (view L.Ledger.meaning F.Book.meaning S.Book.meaning world.now)) buffer.old }
+    ensures length { result ≡ length (count_line (view L.meaning F.meaning S.meaning world.now)) }
+    ensures buffer { buffer.new ≡ over (count_line (view L.meaning F.meaning S.meaning world.now)) buffer.old }
 {
     let tables = world.tables();
     let tokens = tables.tokens.len();
@@ -89,8 +89,8 @@ fn write_token<L: Confined, F: Book, S: Book>(
     buffer: &mut [u8],
 ) -> Option<usize>
     requires { 256 ≤ length buffer.old }
-    ensures answer { result ≡ (if has_line (view L.Ledger.meaning F.Book.meaning S.Book.meaning world.now) (Token number) then Some (length (line_in (view L.Ledger.meaning F.Book.meaning S.Book.meaning world.now) (Token number))) else None) }
-    ensures buffer { buffer.new ≡ (if has_line (view L.Ledger.meaning F.Book.meaning S.Book.meaning world.now) (Token number) then over (line_in (view L.Ledger.meaning F.Book.meaning S.Book.meaning world.now) (Token number)) buffer.old else buffer.old) }
+    ensures answer { result ≡ (if has_line (view L.meaning F.meaning S.meaning world.now) (Token number) then Some (length (line_in (view L.meaning F.meaning S.meaning world.now) (Token number))) else None) }
+    ensures buffer { buffer.new ≡ (if has_line (view L.meaning F.meaning S.meaning world.now) (Token number) then over (line_in (view L.meaning F.meaning S.meaning world.now) (Token number)) buffer.old else buffer.old) }
 {
     let tokens = world.tables().tokens.as_slice();
     if number >= tokens.len() {
@@ -112,8 +112,8 @@ fn write_escrow<L: Confined, F: Book, S: Book>(
     buffer: &mut [u8],
 ) -> Option<usize>
     requires { 256 ≤ length buffer.old }
-    ensures answer { result ≡ (if has_escrow (view L.Ledger.meaning F.Book.meaning S.Book.meaning world.now) lane number then Some (length (escrow_line (view L.Ledger.meaning F.Book.meaning S.Book.meaning world.now) (lane / 2) (lane % 2) number)) else None) }
-    ensures buffer { buffer.new ≡ (if has_escrow (view L.Ledger.meaning F.Book.meaning S.Book.meaning world.now) lane number then over (escrow_line (view L.Ledger.meaning F.Book.meaning S.Book.meaning world.now) (lane / 2) (lane % 2) number) buffer.old else buffer.old) }
+    ensures answer { result ≡ (if has_escrow (view L.meaning F.meaning S.meaning world.now) lane number then Some (length (escrow_line (view L.meaning F.meaning S.meaning world.now) (lane / 2) (lane % 2) number)) else None) }
+    ensures buffer { buffer.new ≡ (if has_escrow (view L.meaning F.meaning S.meaning world.now) lane number then over (escrow_line (view L.meaning F.meaning S.meaning world.now) (lane / 2) (lane % 2) number) buffer.old else buffer.old) }
 {
     let Some(entry) = entry_at(world, lane, number) else {
         return None;
@@ -140,8 +140,8 @@ pub(crate) fn write_slot<L: Confined, F: Book, S: Book>(
     buffer: &mut [u8],
 ) -> Option<usize>
     requires { 256 ≤ length buffer.old }
-    ensures answer { result ≡ (if has_line (view L.Ledger.meaning F.Book.meaning S.Book.meaning world.now) slot then Some (length (line_in (view L.Ledger.meaning F.Book.meaning S.Book.meaning world.now) slot)) else None) }
-    ensures buffer { buffer.new ≡ (if has_line (view L.Ledger.meaning F.Book.meaning S.Book.meaning world.now) slot then over (line_in (view L.Ledger.meaning F.Book.meaning S.Book.meaning world.now) slot) buffer.old else buffer.old) }
+    ensures answer { result ≡ (if has_line (view L.meaning F.meaning S.meaning world.now) slot then Some (length (line_in (view L.meaning F.meaning S.meaning world.now) slot)) else None) }
+    ensures buffer { buffer.new ≡ (if has_line (view L.meaning F.meaning S.meaning world.now) slot then over (line_in (view L.meaning F.meaning S.meaning world.now) slot) buffer.old else buffer.old) }
 {
     match slot {
         Slot::Counts => {
@@ -155,7 +155,7 @@ pub(crate) fn write_slot<L: Confined, F: Book, S: Book>(
 
 // Whether a slot has a line.
 pub(crate) fn is_filled<L: Confined, F: Book, S: Book>(world: &World<L, F, S>, slot: Slot) -> bool
-    ensures { result ≡ has_line (view L.Ledger.meaning F.Book.meaning S.Book.meaning world.now) slot }
+    ensures { result ≡ has_line (view L.meaning F.meaning S.meaning world.now) slot }
 {
     match slot {
         Slot::Counts => true,

@@ -24,7 +24,7 @@ fn put_slot<L: Confined, F: Book, S: Book, O: Sink>(
     out: &mut O,
 ) -> Result<(), O::Error>
     requires { 256 ≤ length buffer.old }
-    ensures { OnOk result (Handed O.Sink.takes out.old (at_place (view L.Ledger.meaning F.Book.meaning S.Book.meaning world.now) place) out.new) }
+    ensures { OnOk result (Handed O.takes out.old (at_place (view L.meaning F.meaning S.meaning world.now) place) out.new) }
 {
     let slot = slot_of(world, place);
     match write_slot(world, slot, buffer) {
@@ -38,8 +38,8 @@ pub fn write_audit<L: Confined, F: Book, S: Book, O: Sink>(
     world: &World<L, F, S>,
     out: &mut O,
 ) -> Result<(), O::Error>
-    ensures lines { OnOk result (Handed O.Sink.takes out.old (audit_lines (view L.Ledger.meaning F.Book.meaning S.Book.meaning world.now)) out.new) }
-    ensures accounts { AddsUp (view L.Ledger.meaning F.Book.meaning S.Book.meaning world.now) }
+    ensures lines { OnOk result (Handed O.takes out.old (audit_lines (view L.meaning F.meaning S.meaning world.now)) out.new) }
+    ensures accounts { AddsUp (view L.meaning F.meaning S.meaning world.now) }
 {
     let mut buffer = [0; LINE_ROOM];
     for place in 0..count_slots(world) {
@@ -50,7 +50,7 @@ pub fn write_audit<L: Confined, F: Book, S: Book, O: Sink>(
 
 // The slot that has line n.
 fn find_line<L: Confined, F: Book, S: Book>(world: &World<L, F, S>, n: usize) -> Option<Slot>
-    ensures { MatchOption result (length (audit_lines (view L.Ledger.meaning F.Book.meaning S.Book.meaning world.now)) ≤ n) (λ s. Nth (view L.Ledger.meaning F.Book.meaning S.Book.meaning world.now) n s) }
+    ensures { MatchOption result (length (audit_lines (view L.meaning F.meaning S.meaning world.now)) ≤ n) (λ s. Nth (view L.meaning F.meaning S.meaning world.now) n s) }
 {
     let mut left = n;
     for place in 0..count_slots(world) {
@@ -73,9 +73,9 @@ pub fn write_line<L: Confined, F: Book, S: Book>(
     n: usize,
     buffer: &mut [u8],
 ) -> Result<usize, AuditFault>
-    ensures answer { told_by audit_number result ≡ answer_unless (line_refusals (view L.Ledger.meaning F.Book.meaning S.Book.meaning world.now) (length buffer.old) n) (length (audit_line (view L.Ledger.meaning F.Book.meaning S.Book.meaning world.now) n)) }
-    ensures buffer { buffer.new ≡ left_by result buffer.old (over (audit_line (view L.Ledger.meaning F.Book.meaning S.Book.meaning world.now) n) buffer.old) }
-    ensures accounts { AddsUp (view L.Ledger.meaning F.Book.meaning S.Book.meaning world.now) }
+    ensures answer { told_by audit_number result ≡ answer_unless (line_refusals (view L.meaning F.meaning S.meaning world.now) (length buffer.old) n) (length (audit_line (view L.meaning F.meaning S.meaning world.now) n)) }
+    ensures buffer { buffer.new ≡ left_by result buffer.old (over (audit_line (view L.meaning F.meaning S.meaning world.now) n) buffer.old) }
+    ensures accounts { AddsUp (view L.meaning F.meaning S.meaning world.now) }
 {
     if buffer.len() < LINE_ROOM {
         return Err(AuditFault::BufferTooSmall);

@@ -55,7 +55,7 @@ fn kind_of(links: &[Link], link: usize) -> LinkKind
 
 // The mark of a packet, if it has one.
 fn mark_of<L: Confined, F: Book, S: Book>(world: &World<L, F, S>, packet: &Packet) -> Option<Mark>
-    ensures { option_map mark_number result ≡ mark_at (view L.Ledger.meaning F.Book.meaning S.Book.meaning world.now) packet.now.lane packet.now.sequence }
+    ensures { option_map mark_number result ≡ mark_at (view L.meaning F.meaning S.meaning world.now) packet.now.lane packet.now.sequence }
 {
     let kind = kind_of(world.tables().links.as_slice(), packet.lane / 2);
     world.look(kind, packet.lane, packet.sequence)
@@ -63,16 +63,9 @@ fn mark_of<L: Confined, F: Book, S: Book>(world: &World<L, F, S>, packet: &Packe
 
 // Whether a packet stands without a mark, or with one that is not good.
 fn is_open<L: Confined, F: Book, S: Book>(world: &World<L, F, S>, packet: &Packet) -> bool
-    ensures { result ≡ packet-open (view L.Ledger.meaning F.Book.meaning S.Book.meaning world.now) (packet_view packet.now) }
+    ensures { result ≡ packet-open (view L.meaning F.meaning S.meaning world.now) (packet_view packet.now) }
 {
-    match packet.standing {
-        Standing::Ended => false,
-        Standing::Stands => match mark_of(world, packet) {
-            Some(Mark::Good) => false,
-            Some(_) => true,
-            None => true,
-        },
-    }
+    packet.standing == Standing::Stands && mark_of(world, packet) != Some(Mark::Good)
 }
 
 // Whether a denomination has the symbol of a token; where it has not, its home need not be looked for.
@@ -104,9 +97,9 @@ fn home_of(tables: &Tables, chain: usize, denomination: &Denomination) -> TokenI
 }
 
 impl<'a, L: Confined, F: Book, S: Book> Row<Traces<'a, L, F, S>> for Denomination {
-    ghost amount = { λ w e d. gate (nat_lt w.chain 8 && nat_lt d 32) (users_hold (view L.Ledger.meaning F.Book.meaning S.Book.meaning w.world.now).ledger.balance w.chain d) };
+    ghost amount = { λ w e d. gate (nat_lt w.chain 8 && nat_lt d 32) (users_hold (view L.meaning F.meaning S.meaning w.world.now).ledger.balance w.chain d) };
 
-    ghost counts = { λ w e d. same_token (home_of (view L.Ledger.meaning F.Book.meaning S.Book.meaning w.world.now).links w.chain (denom_view e)) (token_view w.token.now) };
+    ghost counts = { λ w e d. same_token (home_of (view L.meaning F.meaning S.meaning w.world.now).links w.chain (denom_view e)) (token_view w.token.now) };
 
     fn worth(&self, which: &Traces<'a, L, F, S>, place: usize) -> u64 {
         if which.chain < CHAINS && place < DENOMINATIONS {
@@ -125,7 +118,7 @@ impl<'a, L: Confined, F: Book, S: Book> Row<Traces<'a, L, F, S>> for Denominatio
 impl<'a, L: Confined, F: Book, S: Book> Row<OnLane<'a, L, F, S>> for Packet {
     ghost amount = { λ w p i. p.amount };
 
-    ghost counts = { λ w p i. packet-open (view L.Ledger.meaning F.Book.meaning S.Book.meaning w.world.now) (packet_view p) && on_lane_with w.lane (denom_view w.denomination.now) (packet_view p) };
+    ghost counts = { λ w p i. packet-open (view L.meaning F.meaning S.meaning w.world.now) (packet_view p) && on_lane_with w.lane (denom_view w.denomination.now) (packet_view p) };
 
     fn worth(&self, _which: &OnLane<'a, L, F, S>, _place: usize) -> u64 {
         self.amount
@@ -141,7 +134,7 @@ impl<'a, L: Confined, F: Book, S: Book> Row<OnLane<'a, L, F, S>> for Packet {
 impl<'a, L: Confined, F: Book, S: Book> Row<OfToken<'a, L, F, S>> for Packet {
     ghost amount = { λ w p i. p.amount };
 
-    ghost counts = { λ w p i. packet-open (view L.Ledger.meaning F.Book.meaning S.Book.meaning w.world.now) (packet_view p) && of_token (view L.Ledger.meaning F.Book.meaning S.Book.meaning w.world.now) (token_view w.token.now) (packet_view p) };
+    ghost counts = { λ w p i. packet-open (view L.meaning F.meaning S.meaning w.world.now) (packet_view p) && of_token (view L.meaning F.meaning S.meaning w.world.now) (token_view w.token.now) (packet_view p) };
 
     fn worth(&self, _which: &OfToken<'a, L, F, S>, _place: usize) -> u64 {
         self.amount

@@ -7,10 +7,11 @@ use Rattle.denom.specs.Text.{is_symbol, denom_of}
 use Rattle.denom.specs.Views.{symbol_of, denom_view}
 use Rattle.protocol.specs.World.{is_strict}
 use Rattle.protocol.specs.Calls.{Call, open_link, issue, retire, pay, send, receive, ack, timeout, tick, bar, unbar, home}
+use Rattle.protocol.specs.Requests.{sending, receiving, acknowledging, timing_out}
+use Rattle.protocol.specs.declared.requests.PacketId.{PacketId}
 use Rattle.script.specs.Lines.{words, line_too_long, is_comment, well_formed}
 use Rattle.commands.specs.declared.commands.Name.{Name}
 use Rattle.commands.specs.declared.commands.Name.TheVariants.{Open, Issue, Retire, Pay, Send, Receive, Ack, Timeout, Tick, Bar, Unbar, Home, Audit}
-use Rattle.commands.specs.declared.commands.PacketId.{PacketId}
 use Rattle.commands.specs.declared.commands.Command.{Command}
 use Rattle.commands.specs.declared.commands.Command.TheVariants as command
 
@@ -25,10 +26,10 @@ request_of (command.Open a b k) = call (open_link a b (is_strict k))
 request_of (command.Issue c u s n) = call (issue c u (symbol_of s) n)
 request_of (command.Retire c u e n) = call (retire c u (denom_view e) n)
 request_of (command.Pay c u v e n) = call (pay c u v (denom_view e) n)
-request_of (command.Send c k u v e n t) = call (send c k u v (denom_view e) n t)
-request_of (command.Receive p) = call (receive p.link p.direction p.sequence)
-request_of (command.Ack p) = call (ack p.link p.direction p.sequence)
-request_of (command.Timeout p) = call (timeout p.link p.direction p.sequence)
+request_of (command.Send t) = call (sending t)
+request_of (command.Receive p) = call (receiving p)
+request_of (command.Ack p) = call (acknowledging p)
+request_of (command.Timeout p) = call (timing_out p)
 request_of (command.Tick c n) = call (tick c n)
 request_of (command.Bar c u) = call (bar c u)
 request_of (command.Unbar c u) = call (unbar c u)

@@ -1,5 +1,5 @@
 use denom::{Denomination, Symbol};
-use protocol::LinkKind;
+use protocol::{LinkKind, PacketId, Transfer};
 
 /// The first word of a command.
 #[derive(Clone, Copy, PartialEq, Eq, Debug)]
@@ -17,14 +17,6 @@ pub enum Name {
     Unbar,
     Home,
     Audit,
-}
-
-/// Which packet is meant: of which link, in which direction (0 from end 0 to end 1, and 1 back), with which sequence.
-#[derive(Clone, Copy)]
-pub struct PacketId {
-    pub link: usize,
-    pub direction: usize,
-    pub sequence: usize,
 }
 
 /// A command with its arguments, in the order of its words.
@@ -54,15 +46,7 @@ pub enum Command {
         denomination: Denomination,
         amount: u64,
     },
-    Send {
-        chain: usize,
-        channel: usize,
-        sender: usize,
-        receiver: usize,
-        denomination: Denomination,
-        amount: u64,
-        timeout: u64,
-    },
+    Send(Transfer),
     Receive(PacketId),
     Ack(PacketId),
     Timeout(PacketId),

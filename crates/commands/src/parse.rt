@@ -6,9 +6,9 @@ ghost use Rattle.commands.specs.Commands.{request_of, request, asked, parsed, pa
 ghost use Rattle.script.specs.Lines.{script_too_long};
 ghost use Rattle.commands.specs.declared.commands.Name.TheVariants.{Open as Open-name, Issue as Issue-name, Retire as Retire-name, Pay as Pay-name, Send as Send-name, Tick as Tick-name, Home as Home-name};
 
-use super::commands::{Command, Name, PacketId};
+use super::commands::{Command, Name};
 use super::words::{denomination_at, index_at, kind_at, number_at, symbol_at};
-use protocol::ScriptFault;
+use protocol::{PacketId, ScriptFault, Transfer};
 use script::{count_words, is_comment, is_well_formed, word_at};
 
 /// The most bytes that a line may have, its LF not counted.
@@ -55,7 +55,7 @@ fn send_in(line: &[u8]) -> Result<Command, ScriptFault>
     let denomination = denomination_at(line, 5)?;
     let amount = number_at(line, 6)?;
     let timeout = number_at(line, 7)?;
-    Ok(Command::Send {
+    Ok(Command::Send(Transfer {
         chain,
         channel,
         sender,
@@ -63,7 +63,7 @@ fn send_in(line: &[u8]) -> Result<Command, ScriptFault>
         denomination,
         amount,
         timeout,
-    })
+    }))
 }
 
 fn retire_in(line: &[u8]) -> Result<Command, ScriptFault>

@@ -1,6 +1,5 @@
 -- The two directions of a link of the table are the lanes of its two ends.
 use Rattle.std.proofs.Common.{◌≡◌, ℕ, zero, suc, ◌+◌, ◌*◌, ◌/◌, ◌%◌, ◌<◌, ◌≤◌, Bool, true, false, List, [], ◌∷◌, length, get_or, Some, sym, refl, ap, ◌∙◌, arith, ltb-true, length-take}
-use native.Mathlib.Nat.{min-le_left}
 use lib.ListN.{length-map}
 use Rattle.std.proofs.lemmas.List.{get_or_default, get_or-map}
 use Rattle.std.proofs.lemmas.Bool.Decides.{nat_tests}
@@ -16,6 +15,7 @@ use Rattle.tables.specs.View.{link_view, no_link, links_in, closed_in}
 use Rattle.tables.specs.declared.types.Route.{Route}
 use Rattle.tables.specs.Routes.{is_lane, Leads, LeadsOut}
 use Rattle.tables.proofs.Kept.{number_some}
+use Rattle.tables.proofs.Taken.{few_rows}
 
 ends_even : (ls : List protocol.Link) (i : ℕ) → get_or (ends ls) (2 * i) no_end ≡ (get_or ls i protocol.no_link).end₀
 ends_even [] i = refl
@@ -38,9 +38,6 @@ back_odd : (l d : ℕ) → d ≡ 1 → back (lane l d) ≡ 2 * l
 back_odd l d e = let odd : (2 * l + d) % 2 ≡ 1 = omega arith in grind (arith, nat_tests)
 
 module _ (t : Rows Link 16) (l d : ℕ) (row : Link) (h : l < length (rows_of t)) (read : row ≡ get_or (rows_of t) l row) where
-  few : length (rows_of t) ≤ 16
-  few = omega (arith, t.few, length-take t.count t.places, min-le_left t.count (length t.places))
-
   all : length (links_in t) ≡ length (rows_of t)
   all = length-map (rows_of t) link_view
 
@@ -63,7 +60,7 @@ module _ (t : Rows Link 16) (l d : ℕ) (row : Link) (h : l < length (rows_of t)
         far = ap (λ (r : protocol.Link). r.end₁) seen_row ∙ sym (ends_odd (links_in t) l) ∙ ap (λ n. get_or (ends (links_in t)) n no_end) (sym (back_even l d e));
         kind = ap (λ (r : protocol.Link). r.kind) seen_row ∙ ap (λ n. (get_or (links_in t) n protocol.no_link).kind) (sym half);
         closed_is = closed_row;
-        low = omega (arith, h, few, e);
+        low = omega (arith, h, few_rows t, e);
       }
 
   pub leads_back : d ≡ 1 → Leads (links_in t) (closed_in t) l d (record { link = l; lane = 2 * l + 1; near = row.second; far = row.first; kind = row.kind; closed = row.closed })
@@ -79,7 +76,7 @@ module _ (t : Rows Link 16) (l d : ℕ) (row : Link) (h : l < length (rows_of t)
         far = ap (λ (r : protocol.Link). r.end₀) seen_row ∙ sym (ends_even (links_in t) l) ∙ ap (λ n. get_or (ends (links_in t)) n no_end) (sym (back_odd l d e));
         kind = ap (λ (r : protocol.Link). r.kind) seen_row ∙ ap (λ n. (get_or (links_in t) n protocol.no_link).kind) (sym half);
         closed_is = closed_row;
-        low = omega (arith, h, few, e);
+        low = omega (arith, h, few_rows t, e);
       }
 
 -- The lane that leads out by a channel, and the route that it is.

@@ -10,6 +10,7 @@ use Rattle.tables.specs.declared.types.Link.{Link}
 use Rattle.denom.specs.Views.{denom_view}
 use Rattle.denom.specs.declared.types.Denomination.{Denomination}
 use Rattle.tables.specs.declared.types.Rows.{Rows}
+use Rattle.tables.specs.Rows.{rows_of}
 use Rattle.tables.specs.View.{no_link, no_denominations, denoms_of}
 
 -- a row replaced among those that are taken
@@ -34,11 +35,15 @@ still_closed (r ∷ rows) x e (suc i) = still_closed rows x e i
 pub length_rows : {X Y : Type 0} (f : X → Y) (rows : List X) (n : ℕ) → n ≤ length rows → length (map f (take n rows)) ≡ n
 length_rows f rows n h = length-map (take n rows) f ∙ length-take-le n rows h
 
+-- there are no more rows than places
+pub few_rows : {T : Type 0} {N : ℕ} (r : Rows T N) → length (rows_of r) ≤ N
+few_rows r = omega (arith, r.few, length-take r.count r.places, min-le_left r.count (length r.places))
+
 -- a chain's register has at most 32 denominations
 pub few_denoms : (rows : List (Rows Denomination 32)) (c : ℕ) → length (denoms_of rows c) ≤ 32
 few_denoms rows c =
     let row = get_or rows c no_denominations in
-    omega (arith, row.few, length-map (take row.count row.places) denom_view, length-take row.count row.places)
+    omega (arith, few_rows row, length-map (rows_of row) denom_view)
 
 -- a row that is taken stands in the table, among those that are taken
 pub row_within : {X Y : Type 0} (f : X → Y) (rows : List X) (n i : ℕ) → i < length (map f (take n rows)) → (i < n) × (i < length rows)

@@ -23,10 +23,11 @@ impl Tables {
         }
     }
 
-    /// The number of a denomination on a chain, below 32, or nothing.
+    /// The number of a denomination on a chain, below 32, or nothing; only chains 0 to 7 know any.
     pub fn number_of(&self, chain: usize, denomination: &Denomination) -> Option<usize>
         ensures number { result ≡ number_of (same_denom (denom_view denomination.now)) (denoms_of self.now.denominations chain) }
         ensures small { IfSome result (λ n. n < 32) }
+        ensures chain { IfSome result (λ _. chain < 8) }
     {
         find_in(self.denominations_on(chain), denomination)
     }

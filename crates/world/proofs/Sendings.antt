@@ -1,5 +1,5 @@
 -- What a send comes to, once its checks are known.
-use Rattle.std.proofs.Common.{◌≡◌, ℕ, ◌/◌, ◌<◌, Bool, true, false, cond, not, ◌||◌, eqb, leb, ◌∷◌, length, arith}
+use Rattle.std.proofs.Common.{◌≡◌, ℕ, ◌/◌, ◌<◌, Bool, true, false, cond, not, ◌||◌, eqb, leb, ◌∷◌, length, Some, arith}
 use Rattle.std.proofs.lemmas.Bool.Decides.{nat_tests}
 use Rattle.denom.specs.Denomination.{Denom, came_by}
 use Rattle.protocol.specs.House.{users, packets_most, escrow_account}
@@ -19,6 +19,17 @@ send_left w c k u v e n t chain used user some known alive early room =
     λ i. first (
     6 when not (chain i) ∷ 10 when not (used i) ∷ 12 when user i ∷ 13 when some i ∷ 14 when not (known i)
     ∷ 16 when alive i ∷ 17 when early i ∷ 22 when room i ∷ taking_refusals w.ledger c u (number w c e) n)
+
+-- and where but for the packets none would apply, they are what refuses
+pub send_full :
+    (w : World) (c k u v : ℕ) (e : Denom) (n t : ℕ) →
+    served w c ≡ true → in_use w.links c k ≡ true → (leb users u || leb users v) ≡ false → eqb n 0 ≡ false → registered w c e ≡ true →
+    w.closed (lane_out w.links c k / 2) ≡ false → passed w (lane_out w.links c k) t ≡ false → leb packets_most (length w.packets) ≡ true →
+    first (refusals w (send c k u v e n t)) ≡ Some 22
+send_full w c k u v e n t chain used user some known alive early full =
+    λ i. first (
+    6 when not (chain i) ∷ 10 when not (used i) ∷ 12 when user i ∷ 13 when some i ∷ 14 when not (known i)
+    ∷ 16 when alive i ∷ 17 when early i ∷ 22 when full i ∷ taking_refusals w.ledger c u (number w c e) n)
 
 -- within the bounds the ledger refuses for its own two reasons alone, whether it is to burn or to put into escrow
 pub off_left :

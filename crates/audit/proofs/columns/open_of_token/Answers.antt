@@ -1,8 +1,8 @@
-use Rattle.std.proofs.Common.{ap, ◌∙◌, arith}
+use Rattle.std.proofs.Common.{map, ap, ◌∙◌, arith}
 use Rattle.denom.specs.Views.{token_view}
 use Rattle.protocol.specs.World.{of_token}
 use Rattle.tables.specs.declared.types.Tables.{Tables}
-use Rattle.tables.specs.View.{packets_in}
+use Rattle.tables.specs.View.{packet_view, packets_in}
 use Rattle.world.specs.View.{view}
 use Rattle.audit.proofs.Totals.{open_counted, few_packets}
 use Rattle.audit.proofs.columns.open_of_token.Goals as goal
@@ -10,7 +10,7 @@ use Rattle.audit.proofs.columns.open_of_token.Goals as goal
 pub returns : goal.returns
 returns g c =
     let w = view g.L.Ledger.meaning g.F.Book.meaning g.S.Book.meaning c.args.world.now in
-    let sent = c.as_slice.ensures ∙ ap (λ (t : Tables). packets_in t.packets) c.tables.ensures in
+    let sent = ap (map packet_view) c.as_slice.ensures ∙ ap (λ (t : Tables). packets_in t.packets) c.tables.ensures in
     record {
       sum = c.add_up.ensures.sum ∙ open_counted w (of_token w (token_view c.args.token.now)) c.as_slice.result.now sent;
       within = omega (arith, c.add_up.ensures.within, few_packets c.args.world.now.tables.packets c.as_slice.result.now sent);

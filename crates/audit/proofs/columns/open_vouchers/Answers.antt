@@ -1,6 +1,7 @@
-use Rattle.std.proofs.Common.{take, rules}
+use Rattle.std.proofs.Common.{rules}
 use Rattle.denom.specs.Denomination.{behind}
 use Rattle.denom.specs.Views.{denom_view}
+use Rattle.tables.specs.Rows.{rows_of}
 use Rattle.world.specs.View.{view}
 use Rattle.audit.proofs.SevenHops.{too_many, uncarried}
 use Rattle.audit.proofs.columns.open_vouchers.Goals as goal
@@ -12,6 +13,6 @@ returns-in-None g c =
     let e = denom_view c.args.denomination.now in
     let sent = c.args.world.now.tables.packets in
     record {
-      sum = uncarried (behind far.channel e) (too_many far.channel e far.channels c.in-None.ensures) w c.args.lane (take sent.count sent.rows);
+      sum = uncarried (behind far.channel e) (too_many far.channel e far.channels c.in-None.ensures) w c.args.lane (rows_of sent);
       within = search rules;
     }

@@ -1,7 +1,8 @@
-use Rattle.std.proofs.Common.{get_or, take}
+use Rattle.std.proofs.Common.{get_or}
 use Rattle.denom.specs.Denomination.{behind}
 use Rattle.denom.specs.Views.{denom_view}
 use Rattle.tables.specs.View.{no_denominations}
+use Rattle.tables.specs.Rows.{rows_of}
 use Rattle.world.specs.View.{view}
 use Rattle.audit.proofs.SevenHops.{too_many, unregistered}
 use Rattle.audit.proofs.Totals.{no_supply}
@@ -14,4 +15,4 @@ returns-in-None g c =
     let e = denom_view c.args.denomination.now in
     let row = get_or c.args.world.now.tables.denominations far.chain no_denominations in
     no_supply w far.chain (behind far.channel e)
-    (unregistered (behind far.channel e) (too_many far.channel e far.channels c.in-None.ensures) (take row.count row.keys))
+    (unregistered (behind far.channel e) (too_many far.channel e far.channels c.in-None.ensures) (rows_of row))

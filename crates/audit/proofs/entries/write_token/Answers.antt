@@ -1,4 +1,4 @@
-use Rattle.std.proofs.Common.{◌≡◌, true, false, ltb, List, [], ◌∷◌, length, get_or, codes, sym, ap, ◌∙◌, arith}
+use Rattle.std.proofs.Common.{◌≡◌, true, false, ltb, List, [], ◌∷◌, length, get_or, map, codes, sym, ap, ◌∙◌, arith}
 use lib.ListN.{length-map}
 use Rattle.std.proofs.lemmas.List.{get_or-map}
 use Rattle.std.proofs.lemmas.Bool.{lt-ltb, le-ltb}
@@ -17,7 +17,7 @@ use Rattle.audit.proofs.entries.write_token.Goals as goal
 pub returns-then-number-tokens : goal.returns-then-number-tokens
 returns-then-number-tokens g c =
     let w = view g.L.Ledger.meaning g.F.Book.meaning g.S.Book.meaning c.args.world.now in
-    let known = c.as_slice-tokens.ensures ∙ ap (λ (t : Tables). tokens_in t.tokens) c.tables.ensures in
+    let known = ap (map token_view) c.as_slice-tokens.ensures ∙ ap (λ (t : Tables). tokens_in t.tokens) c.tables.ensures in
     let past : ltb c.args.number (length w.tokens) ≡ false = le-ltb _ _ (omega (arith, c.if-number-tokens.true, ap length known, length-map c.as_slice-tokens.result.now token_view)) in
     let line = token_line w (get_or w.tokens c.args.number no_token) in
     record {
@@ -29,7 +29,7 @@ pub returns : goal.returns
 returns g c =
     let w = view g.L.Ledger.meaning g.F.Book.meaning g.S.Book.meaning c.args.world.now in
     let t = c.index-tokens-number.result in
-    let known = c.as_slice-tokens.ensures ∙ ap (λ (t : Tables). tokens_in t.tokens) c.tables.ensures in
+    let known = ap (map token_view) c.as_slice-tokens.ensures ∙ ap (λ (t : Tables). tokens_in t.tokens) c.tables.ensures in
     let there : ltb c.args.number (length w.tokens) ≡ true = lt-ltb _ _ (omega (arith, c.if-number-tokens.false, ap length known, length-map c.as_slice-tokens.result.now token_view)) in
     let seen : token_view t ≡ get_or w.tokens c.args.number no_token =
     ap token_view c.index-tokens-number.is
