@@ -5,9 +5,7 @@ ghost use Rattle.audit.specs.declared.slots.Slot.TheVariants.{Token};
 ghost use Rattle.audit.specs.Slots.{slot_at, has_escrow, has_line, line_in, slots, Entered};
 ghost use Rattle.world.specs.View.{view};
 
-use super::columns::{
-    escrow_at, held, open_across, open_of_token, supply_of_token, vouchers_of,
-};
+use super::columns::{escrow_at, held, open_across, open_of_token, supply_of_token, vouchers_of};
 use super::lines::{put_counts, put_escrow, put_token};
 use super::slots::{Entry, Slot};
 use books::Book;
@@ -50,21 +48,16 @@ pub(crate) fn entry_at<L: Confined, F: Book, S: Book>(
 ) -> Option<Entry>
     ensures { MatchOption result (has_escrow (view L.meaning F.meaning S.meaning world.now) lane number ≡ false) (λ e. Entered (view L.meaning F.meaning S.meaning world.now) lane number e) }
 {
-    let Some(route) = world.tables().links.route(lane / 2, lane % 2) else {
-        return None;
-    };
+    let route = world.tables().links.route(lane / 2, lane % 2)?;
     let known = world.tables().denominations_on(route.near.chain);
-    if number >= known.len() {
-        return None;
-    }
-    let denomination = known[number];
+    let denomination = known.get(number)?;
     let escrow = escrow_at(world, &route.near, number);
     if escrow == 0 {
         return None;
     }
     Some(Entry {
         route,
-        denomination,
+        denomination: *denomination,
         escrow,
     })
 }
@@ -92,11 +85,7 @@ fn write_token<L: Confined, F: Book, S: Book>(
     ensures answer { result ≡ (if has_line (view L.meaning F.meaning S.meaning world.now) (Token number) then Some (length (line_in (view L.meaning F.meaning S.meaning world.now) (Token number))) else None) }
     ensures buffer { buffer.new ≡ (if has_line (view L.meaning F.meaning S.meaning world.now) (Token number) then over (line_in (view L.meaning F.meaning S.meaning world.now) (Token number)) buffer.old else buffer.old) }
 {
-    let tokens = world.tables().tokens.as_slice();
-    if number >= tokens.len() {
-        return None;
-    }
-    let token = &tokens[number];
+    let token = world.tables().tokens.as_slice().get(number)?;
     let supply = supply_of_token(world, token);
     let users = held(world, token);
     let carried = open_of_token(world, token);
@@ -115,9 +104,7 @@ fn write_escrow<L: Confined, F: Book, S: Book>(
     ensures answer { result ≡ (if has_escrow (view L.meaning F.meaning S.meaning world.now) lane number then Some (length (escrow_line (view L.meaning F.meaning S.meaning world.now) (lane / 2) (lane % 2) number)) else None) }
     ensures buffer { buffer.new ≡ (if has_escrow (view L.meaning F.meaning S.meaning world.now) lane number then over (escrow_line (view L.meaning F.meaning S.meaning world.now) (lane / 2) (lane % 2) number) buffer.old else buffer.old) }
 {
-    let Some(entry) = entry_at(world, lane, number) else {
-        return None;
-    };
+    let entry = entry_at(world, lane, number)?;
     let vouchers = vouchers_of(world, &entry.route.far, &entry.denomination);
     let homeward = 2 * (lane / 2) + (1 - lane % 2);
     let carried = open_across(world, &entry.route, homeward, &entry.denomination);
@@ -144,10 +131,7 @@ pub(crate) fn write_slot<L: Confined, F: Book, S: Book>(
     ensures buffer { buffer.new ≡ (if has_line (view L.meaning F.meaning S.meaning world.now) slot then over (line_in (view L.meaning F.meaning S.meaning world.now) slot) buffer.old else buffer.old) }
 {
     match slot {
-        Slot::Counts => {
-            let len = write_counts(world, buffer);
-            Some(len)
-        }
+        Slot::Counts => Some(write_counts(world, buffer)),
         Slot::Token(number) => write_token(world, number, buffer),
         Slot::Escrow { lane, number } => write_escrow(world, lane, number, buffer),
     }

@@ -7,7 +7,7 @@ mod tests {
     use audit::write_line;
     use books::{FreeBook, StrictBook};
     use layers::Beside;
-    use note_bank::{NoteBank, Place};
+    use note_bank::NoteBank;
     use session::answer_lines;
     use std::alloc::{AllocError, Global};
     use std::process::Abort;
@@ -18,7 +18,7 @@ mod tests {
 
     fn two_chains(heap: Global) -> Result<Two, AllocError> {
         let accounts = AccountBank::new(vec![in heap; 0u64; 768]?);
-        let notes = NoteBank::new(vec![in heap; Place::Free; 1024]?);
+        let notes = NoteBank::new(vec![in heap; None; 1024]?);
         Ok(World::new(
             Beside::new(accounts, notes),
             FreeBook::new(),
@@ -44,13 +44,8 @@ mod tests {
     fn line_is(rt: &impl Abort, world: &Two, n: usize, line: &[u8]) {
         let mut buffer = [46; 300];
         assert_eq!(rt; write_line(world, n, &mut buffer).ok(), Some(line.len()));
-        for (i, byte) in buffer.iter().enumerate() {
-            if i < line.len() {
-                assert!(rt; *byte == line[i]);
-            } else {
-                assert!(rt; *byte == 46);
-            }
-        }
+        assert!(rt; buffer.starts_with(line));
+        assert!(rt; buffer.iter().skip(line.len()).all(|byte| *byte == 46));
     }
 
     fn refused(
@@ -64,9 +59,7 @@ mod tests {
             Ok(_) => return Err(Fail::new("a line was written")),
             Err(fault) => assert!(rt; fault.number() == number),
         }
-        for byte in buffer.iter() {
-            assert!(rt; *byte == 46);
-        }
+        assert!(rt; buffer.iter().all(|byte| *byte == 46));
         Ok(())
     }
 

@@ -9,6 +9,6 @@ mod words;
 
 pub use answers::{MOST_ANSWER, write_answer};
 pub use commands::{Command, Name};
-pub use protocol::{PacketId, Transfer};
 pub use parse::{MOST_LINE, MOST_SCRIPT, is_too_long, parse_line};
+pub use protocol::{PacketId, Transfer};
 pub use replies::Reply;

@@ -5,27 +5,10 @@ use account_bank::AccountBank;
 use books::{FreeBook, StrictBook};
 use commands::{MOST_SCRIPT, is_too_long};
 use layers::{Barring, Beside};
-use note_bank::{NoteBank, Place};
+use note_bank::NoteBank;
 use session::answer_lines;
-use std::io;
 use std::io::{BufWriter, Read, Write};
 use world::World;
-
-// Fills a buffer from the input, and answers how many bytes came before it was full or the input ended.
-fn fill(input: &mut impl Read, buffer: &mut [u8]) -> io::Result<usize> {
-    let mut len = 0;
-    for _ in 0..buffer.len() {
-        if len >= buffer.len() {
-            break;
-        }
-        let got = input.read(&mut buffer[len..])?;
-        if got == 0 {
-            break;
-        }
-        len += got;
-    }
-    Ok(len)
-}
 
 // Puts a world together and answers a script on it.
 fn answer_script(text: &[u8], rt: &HostRuntime) -> anyhow::Result<()> {
@@ -37,7 +20,7 @@ fn answer_script(text: &[u8], rt: &HostRuntime) -> anyhow::Result<()> {
         return Ok(());
     }
     let accounts = AccountBank::new(vec![in heap; 0u64; 768]?);
-    let notes = NoteBank::new(vec![in heap; Place::Free; 1024]?);
+    let notes = NoteBank::new(vec![in heap; None; 1024]?);
     let ledger = Barring::new(Beside::new(accounts, notes));
     let mut world = World::new(ledger, FreeBook::new(), StrictBook::new());
     answer_lines(&mut world, text, &mut out)?;
@@ -46,10 +29,9 @@ fn answer_script(text: &[u8], rt: &HostRuntime) -> anyhow::Result<()> {
 }
 
 fn main(rt: HostRuntime) -> anyhow::Result<()> {
-    let mut text = vec![in rt.alloc(); 0u8; MOST_SCRIPT + 1]?;
-    let len = fill(&mut rt.stdin(), &mut text)?;
-    if len > text.len() {
-        return Ok(());
-    }
-    answer_script(&text[0..len], &rt)
+    let mut text = Vec::new(rt.alloc());
+    // One byte more than a script may have tells one that is too long.
+    let most = MOST_SCRIPT as u64 + 1;
+    rt.stdin().take(most).read_to_end(&mut text)?;
+    answer_script(&text, &rt)
 }

@@ -4,7 +4,7 @@
 use account_bank::AccountBank;
 use books::{FreeBook, StrictBook};
 use layers::{Barring, Beside};
-use note_bank::{NoteBank, Place};
+use note_bank::NoteBank;
 use session::answer_lines;
 use std::io::{BufWriter, Write};
 use world::World;
@@ -100,9 +100,9 @@ fn main(rt: HostRuntime) -> anyhow::Result<()> {
     let heap = rt.alloc();
     let mut out = BufWriter::new(heap, rt.stdout())?;
     let first = AccountBank::new(vec![in heap; 0u64; 768]?);
-    let second = NoteBank::new(vec![in heap; Place::Free; 1024]?);
+    let second = NoteBank::new(vec![in heap; None; 1024]?);
     let third = AccountBank::new(vec![in heap; 0u64; 768]?);
-    let fourth = NoteBank::new(vec![in heap; Place::Free; 1024]?);
+    let fourth = NoteBank::new(vec![in heap; None; 1024]?);
     let ledger = Barring::new(Beside::new(Beside::new(first, second), Beside::new(third, fourth)));
     let mut world = World::new(ledger, FreeBook::new(), StrictBook::new());
     answer_lines(&mut world, SCRIPT, &mut out)?;

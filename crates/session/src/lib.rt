@@ -26,8 +26,8 @@ pub fn perform<L: Ledger, F: Book, S: Book>(
     world: &mut World<L, F, S>,
     command: Command,
 ) -> Result<Reply, Fault>
-    ensures answer { answer_of result ≡ (performed (view L.Ledger.meaning F.Book.meaning S.Book.meaning world.old) (request_of command)).1 }
-    ensures after { view L.Ledger.meaning F.Book.meaning S.Book.meaning world.new ≡ (performed (view L.Ledger.meaning F.Book.meaning S.Book.meaning world.old) (request_of command)).0 }
+    ensures answer { answer_of result ≡ (performed (view L.meaning F.meaning S.meaning world.old) (request_of command)).1 }
+    ensures after { view L.meaning F.meaning S.meaning world.new ≡ (performed (view L.meaning F.meaning S.meaning world.old) (request_of command)).0 }
 {
     match command {
         Command::Open {
@@ -78,36 +78,20 @@ pub fn perform<L: Ledger, F: Book, S: Book>(
             world.pay(chain, user, payee, &denomination, amount)?;
             Ok(Reply::Done)
         }
-        Command::Send {
-            chain,
-            channel,
-            sender,
-            receiver,
-            denomination,
-            amount,
-            timeout,
-        } => {
-            let sequence = world.send(
-                chain,
-                channel,
-                sender,
-                receiver,
-                &denomination,
-                amount,
-                timeout,
-            )?;
+        Command::Send(transfer) => {
+            let sequence = world.send(&transfer)?;
             Ok(Reply::Number(sequence as u64))
         }
         Command::Receive(packet) => {
-            let mark = world.receive(packet.link, packet.direction, packet.sequence)?;
-            Ok(Reply::Number(mark.number() as u64))
+            let mark = world.receive(packet)?;
+            Ok(Reply::Number(u64::from(mark.number())))
         }
         Command::Ack(packet) => {
-            world.ack(packet.link, packet.direction, packet.sequence)?;
+            world.ack(packet)?;
             Ok(Reply::Done)
         }
         Command::Timeout(packet) => {
-            world.timeout(packet.link, packet.direction, packet.sequence)?;
+            world.timeout(packet)?;
             Ok(Reply::Done)
         }
         Command::Home {
@@ -129,14 +113,11 @@ fn carry_line<L: Ledger, F: Book, S: Book>(
     world: &mut World<L, F, S>,
     line: &[u8],
 ) -> Result<Option<Reply>, Fault>
-    ensures answer { some_answer result ≡ (carried_out (view L.Ledger.meaning F.Book.meaning S.Book.meaning world.old) line.now).1 }
-    ensures after { view L.Ledger.meaning F.Book.meaning S.Book.meaning world.new ≡ (carried_out (view L.Ledger.meaning F.Book.meaning S.Book.meaning world.old) line.now).0 }
+    ensures answer { some_answer result ≡ (carried_out (view L.meaning F.meaning S.meaning world.old) line.now).1 }
+    ensures after { view L.meaning F.meaning S.meaning world.new ≡ (carried_out (view L.meaning F.meaning S.meaning world.old) line.now).0 }
 {
     match parse_line(line)? {
-        Some(command) => {
-            let reply = perform(world, command)?;
-            Ok(Some(reply))
-        }
+        Some(command) => Ok(Some(perform(world, command)?)),
         None => Ok(None),
     }
 }
@@ -147,10 +128,10 @@ pub fn carry_out<L: Ledger, F: Book, S: Book>(
     world: &mut World<L, F, S>,
     line: &[u8],
 ) -> Result<Option<Reply>, Fault>
-    ensures answer { some_answer result ≡ (carried_out (view L.Ledger.meaning F.Book.meaning S.Book.meaning world.old) line.now).1 }
-    ensures after { view L.Ledger.meaning F.Book.meaning S.Book.meaning world.new ≡ (carried_out (view L.Ledger.meaning F.Book.meaning S.Book.meaning world.old) line.now).0 }
-    ensures reached { (l : Meaning) (bs : Bool → BookMeaning) → Reached l bs (view L.Ledger.meaning F.Book.meaning S.Book.meaning world.old) → Reached l bs (view L.Ledger.meaning F.Book.meaning S.Book.meaning world.new) }
-    ensures conserved { Conserves (view L.Ledger.meaning F.Book.meaning S.Book.meaning world.new) }
+    ensures answer { some_answer result ≡ (carried_out (view L.meaning F.meaning S.meaning world.old) line.now).1 }
+    ensures after { view L.meaning F.meaning S.meaning world.new ≡ (carried_out (view L.meaning F.meaning S.meaning world.old) line.now).0 }
+    ensures reached { (l : Meaning) (bs : Bool → BookMeaning) → Reached l bs (view L.meaning F.meaning S.meaning world.old) → Reached l bs (view L.meaning F.meaning S.meaning world.new) }
+    ensures conserved { Conserves (view L.meaning F.meaning S.meaning world.new) }
 {
     carry_line(world, line)
 }
@@ -175,9 +156,9 @@ fn answer_line<L: Ledger, F: Book, S: Book>(
     line: &[u8],
     out: &mut impl Write,
 ) -> io::Result<()>
-    ensures after { view L.Ledger.meaning F.Book.meaning S.Book.meaning world.new ≡ (carried_out (view L.Ledger.meaning F.Book.meaning S.Book.meaning world.old) line.now).0 }
-    ensures reached { (l : Meaning) (bs : Bool → BookMeaning) → Reached l bs (view L.Ledger.meaning F.Book.meaning S.Book.meaning world.old) → Reached l bs (view L.Ledger.meaning F.Book.meaning S.Book.meaning world.new) }
-    ensures conserved { Conserves (view L.Ledger.meaning F.Book.meaning S.Book.meaning world.new) }
+    ensures after { view L.meaning F.meaning S.meaning world.new ≡ (carried_out (view L.meaning F.meaning S.meaning world.old) line.now).0 }
+    ensures reached { (l : Meaning) (bs : Bool → BookMeaning) → Reached l bs (view L.meaning F.meaning S.meaning world.old) → Reached l bs (view L.meaning F.meaning S.meaning world.new) }
+    ensures conserved { Conserves (view L.meaning F.meaning S.meaning world.new) }
 {
     match carry_out(world, line) {
         Ok(None) => Ok(()),
@@ -186,16 +167,16 @@ fn answer_line<L: Ledger, F: Book, S: Book>(
     }
 }
 
-/// Carries out a script line by line, and writes each answer as it comes; it stops where an answer cannot be written. A world that calls have reached is left as one that
-/// calls have reached, and conservation holds of it.
+/// Carries out a script line by line, and writes each answer as it comes; it stops where an answer cannot be written. A world that
+/// calls have reached is left as one that calls have reached, and conservation holds of it.
 pub fn answer_lines<L: Ledger, F: Book, S: Book>(
     world: &mut World<L, F, S>,
     text: &[u8],
     out: &mut impl Write,
 ) -> io::Result<()>
-    ensures after { OnOk result (view L.Ledger.meaning F.Book.meaning S.Book.meaning world.new ≡ script_after (view L.Ledger.meaning F.Book.meaning S.Book.meaning world.old) (lines text.now)) }
-    ensures reached { (l : Meaning) (bs : Bool → BookMeaning) → Reached l bs (view L.Ledger.meaning F.Book.meaning S.Book.meaning world.old) → Reached l bs (view L.Ledger.meaning F.Book.meaning S.Book.meaning world.new) }
-    ensures conserved { Conserves (view L.Ledger.meaning F.Book.meaning S.Book.meaning world.new) }
+    ensures after { OnOk result (view L.meaning F.meaning S.meaning world.new ≡ script_after (view L.meaning F.meaning S.meaning world.old) (lines text.now)) }
+    ensures reached { (l : Meaning) (bs : Bool → BookMeaning) → Reached l bs (view L.meaning F.meaning S.meaning world.old) → Reached l bs (view L.meaning F.meaning S.meaning world.new) }
+    ensures conserved { Conserves (view L.meaning F.meaning S.meaning world.new) }
 {
     let script = Script::over(text);
     for (number, line) in script {

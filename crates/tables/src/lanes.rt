@@ -48,7 +48,13 @@ impl Links {
         ensures closed { (i : ℕ) → closed_in self.new i ≡ (closed_in self.old i || i == link) }
     {
         let row = self.at(link);
-        self.put(link, Link { closed: true, ..row });
+        self.put(
+            link,
+            Link {
+                closed: true,
+                ..row
+            },
+        );
     }
 }
 
@@ -57,6 +63,10 @@ impl Tables {
     pub fn has_passed(&self, chain: usize, timeout: u64) -> bool
         ensures { result ≡ (not (timeout == 0) && nat_le timeout (slice_index self.now.heights chain)) }
     {
-        timeout != 0 && self.heights.get(chain).is_some_and(|height| timeout <= *height)
+        timeout != 0
+            && self
+                .heights
+                .get(chain)
+                .is_some_and(|height| timeout <= *height)
     }
 }

@@ -29,7 +29,7 @@ impl<T: Copy, const N: usize> Rows<T, N> {
     pub fn len(&self) -> usize
         ensures { result ≡ length (rows_of self.now) }
     {
-        self.count
+        self.as_slice().len()
     }
 
     /// The row at a place.

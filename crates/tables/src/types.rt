@@ -1,4 +1,4 @@
-ghost use Rattle.std.specs.Prelude.{◌<◌, ◌≤◌};
+ghost use Rattle.std.specs.Prelude.{◌≡◌, ◌<◌, ◌≤◌, ⊤};
 
 use denom::{Denomination, TokenId};
 use protocol::{CHAINS, DENOMINATIONS, LINKS, LinkKind, PACKETS, TOKENS};
@@ -82,6 +82,10 @@ pub struct Rows<T: Copy, const N: usize> {
 impl<T: Copy, const N: usize> Copy for Rows<T, N> {}
 
 impl<T: Copy, const N: usize> Clone for Rows<T, N> {
+    ghost is_clone = { λ r copy. copy ≡ r };
+
+    ghost is_infallible = { λ _. ⊤ };
+
     fn clone(&self) -> Result<Rows<T, N>, AllocError> {
         Ok(*self)
     }

@@ -1,4 +1,4 @@
-use Rattle.std.proofs.Common.{◌≡◌, true, false, ltb, List, [], ◌∷◌, length, get_or, map, codes, sym, ap, ◌∙◌, arith}
+use Rattle.std.proofs.Common.{◌≡◌, true, ltb, ltb-true, List, [], ◌∷◌, length, get_or, map, codes, sym, ap, ◌∙◌, arith}
 use lib.ListN.{length-map}
 use Rattle.std.proofs.lemmas.List.{get_or-map}
 use Rattle.std.proofs.lemmas.Bool.{lt-ltb, le-ltb}
@@ -14,26 +14,18 @@ use Rattle.audit.specs.Slots.{no_token}
 use Rattle.audit.proofs.Written.{first_and_others, filled_answer, filled_buffer, empty_answer, empty_buffer}
 use Rattle.audit.proofs.entries.write_token.Goals as goal
 
-pub returns-then-number-tokens : goal.returns-then-number-tokens
-returns-then-number-tokens g c =
-    let w = view g.L.Ledger.meaning g.F.Book.meaning g.S.Book.meaning c.args.world.now in
-    let known = ap (map token_view) c.as_slice-tokens.ensures ∙ ap (λ (t : Tables). tokens_in t.tokens) c.tables.ensures in
-    let past : ltb c.args.number (length w.tokens) ≡ false = le-ltb _ _ (omega (arith, c.if-number-tokens.true, ap length known, length-map c.as_slice-tokens.result.now token_view)) in
-    let line = token_line w (get_or w.tokens c.args.number no_token) in
-    record {
-      answer = empty_answer _ (length line) past;
-      buffer = empty_buffer _ c.args.buffer.now (over line c.args.buffer.now) past;
-    }
-
 pub returns : goal.returns
 returns g c =
     let w = view g.L.Ledger.meaning g.F.Book.meaning g.S.Book.meaning c.args.world.now in
-    let t = c.index-tokens-number.result in
-    let known = ap (map token_view) c.as_slice-tokens.ensures ∙ ap (λ (t : Tables). tokens_in t.tokens) c.tables.ensures in
-    let there : ltb c.args.number (length w.tokens) ≡ true = lt-ltb _ _ (omega (arith, c.if-number-tokens.false, ap length known, length-map c.as_slice-tokens.result.now token_view)) in
+    let t = c.in_ok-token.token.now in
+    let rows = c.as_slice.result.now in
+    let got = c.in_ok-token.ensures.lookup in
+    let inside = ltb-true _ _ (sym got.0) in
+    let known = ap (map token_view) c.as_slice.ensures ∙ ap (λ (t : Tables). tokens_in t.tokens) c.tables.ensures in
+    let there : ltb c.args.number (length w.tokens) ≡ true = lt-ltb _ _ (omega (arith, inside, ap length known, length-map c.as_slice.result.now token_view)) in
     let seen : token_view t ≡ get_or w.tokens c.args.number no_token =
-    ap token_view c.index-tokens-number.is
-    ∙ sym (get_or-map token_view c.as_slice-tokens.result.now c.args.number t no_token c.if-number-tokens.false)
+    ap token_view got.1
+    ∙ sym (get_or-map token_view c.as_slice.result.now c.args.number t no_token inside)
     ∙ ap (λ (l : List Token). get_or l c.args.number no_token) known
     in
     let told =
