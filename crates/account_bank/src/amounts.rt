@@ -11,7 +11,7 @@ use sums::{Column, add_up};
 // How many amounts one chain takes.
 const AMOUNTS: usize = ACCOUNTS * DENOMINATIONS;
 
-/// A bank on the memory of 768 amounts.
+/// A bank that serves one chain, without bars, on the memory of 768 amounts; over less memory it serves none.
 pub type AccountBank = Bank<Amounts>;
 
 /// The balances of one chain as a table of amounts, a row for each account.

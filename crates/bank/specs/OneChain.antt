@@ -25,10 +25,14 @@ balances_kept f (Some s) = f s
 abbrev pub bank_meaning : {S : Type 0} → (S → Balances) → Option S → Ledger
 bank_meaning f o = without_bars (chains_kept o) (balances_kept f o)
 
--- it keeps both laws of a ledger
+-- what a store keeps are both laws of a ledger without bars, whatever chains it serves
+pub kept_lawful : (n : ℕ) (b : Balances) → Kept b → Lawful (without_bars n b)
+kept_lawful n b k = record { supplies = k.supplies; bars = λ c u e. refl }
+
+-- so a bank keeps them
 pub bank_lawful : {S : Type 0} (f : S → Balances) → ((s : S) → Kept (f s)) → (o : Option S) → Lawful (bank_meaning f o)
 bank_lawful f kept None = record { supplies = λ c d. omega (arith, sum_zero 24); bars = λ c u e. refl }
-bank_lawful f kept (Some s) = record { supplies = (kept s).supplies; bars = λ c u e. refl }
+bank_lawful f kept (Some s) = kept_lawful 1 (f s) (kept s)
 
 -- and has nothing on a chain that it does not serve
 pub bank_unserved : {S : Type 0} (f : S → Balances) → ((s : S) → Kept (f s)) → (o : Option S) (c a d : ℕ) → chains_kept o ≤ c → balances_kept f o c a d ≡ 0

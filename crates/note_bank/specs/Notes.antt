@@ -1,8 +1,8 @@
 -- What places with notes mean as a ledger: one chain, a balance the sum of its notes, and no bars.
-use Rattle.std.specs.Prelude.{◌≡◌, ℕ, ◌+◌, ◌*◌, ◌<◌, ◌≤◌, Bool, true, false, cond, ◌&&◌, List, length, is_some, Some, None, Option, ◌==◌, nat_le, nat_lt, slice_index_or}
+use Rattle.std.specs.Prelude.{◌≡◌, ℕ, ◌+◌, ◌*◌, ◌<◌, ◌≤◌, Bool, true, false, cond, ◌&&◌, List, length, is_some, Some, None, Option, ◌==◌, nat_le, nat_lt, slice_index_or, refl}
 use Rattle.std.specs.Option.{option_map}
-use Rattle.std.proofs.Common.{arith}
-use Rattle.std.proofs.lemmas.Bool.Decides.{nat_tests}
+use Rattle.std.proofs.Common.{lit≤, arith}
+use Rattle.std.proofs.lemmas.Bool.{le-ltb}
 use Rattle.sums.specs.Sums.{total, gate}
 use Rattle.sums.specs.declared.Column.{Column}
 use Rattle.protocol.specs.House.{most, accounts, denoms_most}
@@ -65,7 +65,15 @@ held xs a d = total (share a d) xs
 unfoldable pub note_balances : List Place → Balances
 note_balances xs c a d = cond (nat_lt c (note_chains xs) && nat_lt a accounts && nat_lt d denoms_most) (held xs a d) 0
 
--- where supplies are in bounds, that is all that a bank asks of its store: no chain but chain 0 has a balance
-pub notes_kept : (xs : List Place) → ((c d : ℕ) → supply (note_balances xs) c d ≤ most) → Kept (note_balances xs)
+-- a chain that is not served has no balance
+pub notes_unserved : (xs : List Place) (c a d : ℕ) → note_chains xs ≤ c → note_balances xs c a d ≡ 0
 unfolding note_balances
-notes_kept xs h = record { supplies = h; elsewhere = λ c a d out. grind (arith, nat_tests) }
+notes_unserved xs c a d h = rw (le-ltb c (note_chains xs) h) refl
+
+-- one chain at most is served
+notes_few : (xs : List Place) → note_chains xs ≤ 1
+notes_few xs = elim (nat_lt (length xs) 1024) as (λ (b : Bool). cond b 0 1 ≤ 1) [ true ↦ lit≤ tt | false ↦ lit≤ tt ]
+
+-- where supplies are in bounds, places with notes are all that a bank asks of its store
+pub notes_kept : (xs : List Place) → ((c d : ℕ) → supply (note_balances xs) c d ≤ most) → Kept (note_balances xs)
+notes_kept xs h = record { supplies = h; elsewhere = λ c a d out. notes_unserved xs c a d (omega (arith, notes_few xs)) }

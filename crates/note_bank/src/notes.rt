@@ -12,7 +12,7 @@ use sums::{Column, add_up};
 // How many places one chain takes.
 const PLACES: usize = 1024;
 
-/// A bank on 1,024 places for notes.
+/// A bank that serves one chain, without bars, on 1,024 places for notes; over less memory it serves none.
 pub type NoteBank = Bank<Notes>;
 
 /// The balances of one chain as notes, each in a place of its own. All notes lie in the first `used` places: the memory is
