@@ -1,5 +1,7 @@
 -- A text by its bytes.
-use Rattle.std.proofs.Common.{◌≡◌, ℕ, suc, List, [], ◌∷◌, length, get_or, refl, arith}
+use Rattle.std.proofs.Common.{◌≡◌, ℕ, suc, List, [], ◌∷◌, length, get_or, Some, sym, refl, ap, ◌∙◌, arith}
+use Rattle.commands.specs.Commands.{name_of}
+use Rattle.commands.specs.declared.commands.Name.{Name}
 
 -- from place k on a text has these bytes
 abbrev pub Spells : List ℕ → ℕ → List ℕ → Type 0
@@ -16,3 +18,7 @@ spelt [] [] long h = refl
 spelt [] (y ∷ ys) long h = absurd (omega arith)
 spelt (x ∷ xs) [] long h = absurd (omega arith)
 spelt (x ∷ xs) (y ∷ ys) long h = λ i. h.0 i ∷ spelt xs ys (omega arith) (later x xs 0 ys h.1) i
+
+-- a word that has the bytes of a name is that name
+pub named : (word text : List ℕ) (name : Name) → Some name ≡ name_of text → length word ≡ length text → Spells word 0 text → Some name ≡ name_of word
+named word text name is long h = is ∙ sym (ap name_of (spelt word text long h))

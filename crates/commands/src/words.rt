@@ -12,6 +12,7 @@ use protocol::{LinkKind, ScriptFault};
 use script::word_at;
 
 impl Name {
+    // No `TryFrom`: there is one way to fail, and the caller names the fault.
     /// The command that a word names.
     pub fn of(word: &[u8]) -> Option<Name>
         ensures { result ≡ name_of word.now }

@@ -1,5 +1,6 @@
 -- A trace is read from just the text that it is written as.
 use Rattle.std.proofs.Common.{◌≡◌, ℕ, zero, suc, ◌+◌, ◌-◌, ◌*◌, ◌<◌, ◌≤◌, Bool, true, false, cond, ◌&&◌, eqb, ltb, leb, List, [], ◌∷◌, ◌++◌, length, get_or, take, drop, IfSome, IfOk, Some, None, Ok, Err, Option, Result, sym, refl, ap, ◌∙◌, subst, ⊎_elim, arith, Bor, ltb-true, lt-ltb, eqb-true, le-leb, leb-true}
+use Rattle.std.proofs.lemmas.Bool.{and_parts}
 use Rattle.std.specs.Result.{result_map_both}
 use Rattle.std.proofs.lemmas.List.{drop_more, drop-drop, drop-set, length-set, get_or_past}
 use Rattle.std.proofs.str.Laws.{order}
@@ -9,7 +10,7 @@ use Rattle.denom.specs.Denomination.{Denom, hopless, behind}
 use Rattle.denom.specs.Text.{hop_mark, hop_text, trace_text, denom_text, begins, hop_digit, hop_of, letter, letter_or_digit, each, is_symbol, only_symbol, behind_hop, read_on, read_from, denom_of}
 use Rattle.denom.specs.Views.{symbol_answer, denom_answer, put_hops, hops_after, count_after}
 use Rattle.denom.specs.Laws.{DenomsReadBack, DenomsWriteBack}
-use Rattle.denom.proofs.Steps.{both, symbol_here}
+use Rattle.denom.proofs.Steps.{symbol_here}
 
 -- tests
 cond_some : {X : Type 0} (b : Bool) (x y : X) → cond b (Some x) None ≡ Some y → (b ≡ true) × (x ≡ y)
@@ -21,15 +22,15 @@ begins_front : (ps bs : List ℕ) → begins ps bs ≡ true → bs ≡ ps ++ dro
 begins_front [] bs e = refl
 begins_front (p ∷ ps) [] e = let z : ◌≡◌ {A = ℕ} 0 1 = cc in absurd (omega arith)
 begins_front (p ∷ ps) (b ∷ bs) e =
-    let h = both (eqb b p) (begins ps bs) e in
+    let h = and_parts (eqb b p) (begins ps bs) e in
     (λ i. eqb-true b p h.0 i ∷ begins_front ps bs h.1 i)
 
 begins_each : (p : ℕ → Bool) (ps bs : List ℕ) → begins ps bs ≡ true → each p bs ≡ true → each p ps ≡ true
 begins_each p [] bs e a = refl
 begins_each p (q ∷ ps) [] e a = let z : ◌≡◌ {A = ℕ} 0 1 = cc in absurd (omega arith)
 begins_each p (q ∷ ps) (b ∷ bs) e a =
-    let h = both (eqb b q) (begins ps bs) e in
-    let k = both (p b) (each p bs) a in
+    let h = and_parts (eqb b q) (begins ps bs) e in
+    let k = and_parts (p b) (each p bs) a in
     let first : p q ≡ true = ap p (sym (eqb-true b q h.0)) ∙ k.0 in
     let rest = begins_each p ps bs h.1 k.1 in
     rw (first, rest) refl
@@ -37,8 +38,8 @@ begins_each p (q ∷ ps) (b ∷ bs) e a =
 digit_inv : (d slash h : ℕ) → hop_digit d slash ≡ Some h → (48 + h ≡ d) × (h < 8) × (slash ≡ 47)
 digit_inv d slash h e =
     let c = cond_some (leb 48 d && (leb d 55 && eqb slash 47)) (d - 48) h e in
-    let p = both (leb 48 d) (leb d 55 && eqb slash 47) c.0 in
-    let q = both (leb d 55) (eqb slash 47) p.1 in
+    let p = and_parts (leb 48 d) (leb d 55 && eqb slash 47) c.0 in
+    let q = and_parts (leb d 55) (eqb slash 47) p.1 in
     let low = leb-true 48 d p.0 in
     let high = leb-true d 55 q.0 in
     (omega (arith, c.1), omega (arith, c.1), eqb-true slash 47 q.1)
@@ -71,8 +72,8 @@ symbol_no_hop (c ∷ cs) e =
     let P : Bool → Type 0 = λ b. begins hop_mark (c ∷ cs) ≡ b → cond b (hop_digit (get_or (c ∷ cs) 17 0) (get_or (c ∷ cs) 18 0)) None ≡ None in
     let go : (b : Bool) → P b = λ b. elim b as P [
       | true ↦ λ m.
-          let tail = (both (eqb c 116) (begins (drop 1 hop_mark) cs) m).1 in
-          let all = (both (leb (length cs) 15) (each letter_or_digit cs) (both (letter c) _ e).1).1 in
+          let tail = (and_parts (eqb c 116) (begins (drop 1 hop_mark) cs) m).1 in
+          let all = (and_parts (leb (length cs) 15) (each letter_or_digit cs) (and_parts (letter c) _ e).1).1 in
           let never : false ≡ true = begins_each letter_or_digit (drop 1 hop_mark) cs tail all in
           let z : ◌≡◌ {A = ℕ} 0 1 = cc in absurd (omega arith)
       | false ↦ λ m. refl
@@ -130,14 +131,14 @@ forth zero (h ∷ hs) s few ch ok = absurd (omega arith)
 forth (suc k) [] s few ch ok =
     ap (λ o. read_on o (only_symbol s) (read_from k (drop 19 s))) (symbol_no_hop s ok) ∙ symbol_here s ok
 forth (suc k) (h ∷ hs) s few ch ok =
-    let c = both (ltb h 8) (each (λ x. ltb x 8) hs) ch in
+    let c = and_parts (ltb h 8) (each (λ x. ltb x 8) hs) ch in
     ap (λ o. read_on o (only_symbol (trace_text (h ∷ hs) s)) (read_from k (trace_text hs s))) (hop_back h (trace_text hs s) (ltb-true h 8 c.0))
     ∙ ap (behind_hop h) (forth k hs s (omega arith) c.1 ok)
 
 pub reads_back : DenomsReadBack
 reads_back e ok =
-    let b = both (leb (length e.hops) 6 && each (λ h. ltb h 8) e.hops) (is_symbol e.symbol) ok in
-    let t = both (leb (length e.hops) 6) (each (λ h. ltb h 8) e.hops) b.0 in
+    let b = and_parts (leb (length e.hops) 6 && each (λ h. ltb h 8) e.hops) (is_symbol e.symbol) ok in
+    let t = and_parts (leb (length e.hops) 6) (each (λ h. ltb h 8) e.hops) b.0 in
     forth 6 e.hops e.symbol (leb-true (length e.hops) 6 t.0) t.1 b.1
 
 pub writes_back : DenomsWriteBack

@@ -1,5 +1,5 @@
 pub mod Shifts
 pub mod Back
-pub mod Bounds
 pub mod Joins
 pub mod Steps
+pub mod Same

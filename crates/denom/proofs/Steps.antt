@@ -1,16 +1,11 @@
 -- One step of the reader: a hop and the rest, or a symbol.
-use Rattle.std.specs.Prelude.{◌≡◌, ℕ, suc, ◌+◌, ◌-◌, ◌<◌, ◌≤◌, Bool, true, false, ◌&&◌, List, length, take, drop, set, Some, None, Ok, Err, Option, Result, slice_set, refl}
+use Rattle.std.specs.Prelude.{◌≡◌, ℕ, suc, ◌+◌, ◌-◌, ◌<◌, ◌≤◌, true, List, length, take, drop, set, Some, None, Ok, Err, Option, Result, slice_set, refl}
 use Rattle.std.proofs.Common.{sym, ap, ◌∙◌, arith}
 use Rattle.std.proofs.lemmas.List.{take_rest}
 use Rattle.denom.specs.declared.types.TextFault.{TextFault}
 use Rattle.denom.specs.Text.{hop_of, read_on, behind_hop, is_symbol, only_symbol, read_from}
 use Rattle.denom.specs.Denomination.{Denom, hopless}
 use Rattle.denom.specs.Views.{symbol_answer, hops_after, count_after}
-
--- both of two tests that pass together pass
-pub both : (a b : Bool) → (a && b) ≡ true → (a ≡ true) × (b ≡ true)
-both true b e = (refl, e)
-both false b e = let z : ◌≡◌ {A = ℕ} 0 1 = cc in absurd (omega arith)
 
 pub more_hops : (d : ℕ) (bs : List ℕ) → d < 6 → read_from (6 - d) bs ≡ read_on (hop_of bs) (only_symbol bs) (read_from (6 - (d + 1)) (drop 19 bs))
 more_hops d bs h = let e : 6 - d ≡ suc (6 - (d + 1)) = omega arith in ap (λ k. read_from k bs) e
@@ -30,9 +25,6 @@ module _ (h d : ℕ) (at0 at1 : List ℕ) (n0 n1 : ℕ) where
 
 pub symbol_here : (bs : List ℕ) → is_symbol bs ≡ true → only_symbol bs ≡ Some (hopless bs)
 symbol_here bs e = rw e refl
-
-pub symbol_none : (bs : List ℕ) → is_symbol bs ≡ false → only_symbol bs ≡ None
-symbol_none bs e = rw e refl
 
 -- the text as one hop and what is read behind-hop it
 pub one_hop : (d h : ℕ) (text : List ℕ) → d < 6 → Some h ≡ hop_of text → read_from (6 - d) text ≡ behind_hop h (read_from (6 - (d + 1)) (take (length text - 19) (drop 19 text)))

@@ -4,7 +4,7 @@ ghost use Rattle.denom.specs.Text.{is_symbol};
 // A trace has at most six hops.
 pub(crate) const MOST_HOPS: usize = 6;
 
-// The length stands beside the bytes, as these records are copied and stand in fixed memory.
+// The length stands beside the bytes: no heap, and these records are copied. Two types, as hops and symbols have laws of their own.
 
 /// The hops of a denomination, the first hop first: at most six, each a channel 0 to 7.
 #[derive(Clone, Copy)]

@@ -1,5 +1,6 @@
 -- Which texts are numbers, and which are not.
 use Rattle.std.proofs.Common.{◌≡◌, ℕ, ◌+◌, ◌-◌, ◌*◌, ◌^◌, ◌<◌, ◌≤◌, Bool, true, false, cond, ◌&&◌, eqb, ltb, List, [], ◌∷◌, ◌++◌, length, get_or, take, drop, Some, None, decimal, Option, sym, refl, ap, ◌∙◌, subst, ⊎_elim, arith, take-append-drop, ltb-true, lt-ltb, eqb-true}
+use Rattle.std.proofs.lemmas.Bool.{and_parts}
 use Rattle.std.specs.Str.Parse.{AllDigits, digits_value, digits_value_after}
 use Rattle.std.specs.Int.{IsInRange}
 use Rattle.std.specs.Char.{digit_value as digitValue}
@@ -9,7 +10,7 @@ use Rattle.std.proofs.lemmas.Str.Parse.{IsNumeralModel, numerals_by_value, tells
 use Rattle.std.proofs.lemmas.Fmt.{decimal_nonempty, decimal_digit, decimal-digits_of, decimal-digits_value, first_decimal, length-decimal-le, digits_decimal, digits_value-decimal}
 use Rattle.std.proofs.lemmas.Bool.Decides.{nat_tests}
 use Rattle.std.proofs.str.Laws.{order}
-use Rattle.figures.specs.Figures.{figure, number_read, NumbersReadBack, NumbersWriteBack}
+use Rattle.figures.specs.Figures.{figure, number_read, NumbersReadBack}
 use Rattle.figures.proofs.Digits.{figure_digit, figure_long}
 
 own : IsNumeralModel (AllDigits 10) (digits_value 10)
@@ -30,17 +31,13 @@ value_figure n h = ap (digits_value 10) (figure_decimal n h) ∙ digits_value-de
 abbrev pub NoNumber : List ℕ → Type 0
 NoNumber bs = (n : ℕ) → n < 2 ^ 64 → bs ≡ decimal n → ⊥
 
-both : (a b : Bool) → (a && b) ≡ true → (a ≡ true) × (b ≡ true)
-both true b e = (refl, e)
-both false b e = let z : ◌≡◌ {A = ℕ} 0 1 = cc in absurd (omega arith)
-
 pub none_read : (bs : List ℕ) → NoNumber bs → None ≡ number_read bs
 none_read bs never = go (bytes_eq bs (figure (digits_value 10 bs)) && ltb (digits_value 10 bs) (2 ^ 64)) refl
   where
     go : (b : Bool) → (bytes_eq bs (figure (digits_value 10 bs)) && ltb (digits_value 10 bs) (2 ^ 64)) ≡ b → ◌≡◌ {A = Option ℕ} None (cond b (Some (digits_value 10 bs)) None)
     go false e = refl
     go true e =
-        let h = both (bytes_eq bs (figure (digits_value 10 bs))) (ltb (digits_value 10 bs) (2 ^ 64)) e in
+        let h = and_parts (bytes_eq bs (figure (digits_value 10 bs))) (ltb (digits_value 10 bs) (2 ^ 64)) e in
         let fits : digits_value 10 bs < 2 ^ 64 = ltb-true (digits_value 10 bs) (2 ^ 64) h.1 in
         let is : bs ≡ figure (digits_value 10 bs) = (bytes_eq-Decides bs (figure (digits_value 10 bs))).0 h.0 in
         absurd (never (digits_value 10 bs) fits (is ∙ figure_decimal (digits_value 10 bs) fits))
@@ -55,7 +52,7 @@ some_read bs n h is =
 -- what the test for a leading zero tells
 pub leads : (bs : List ℕ) → true ≡ (ltb 1 (length bs) && eqb (get_or bs 0 0) 48) → (1 < length bs) × (get_or bs 0 0 ≡ 48)
 leads bs e =
-    let h = both (ltb 1 (length bs)) (eqb (get_or bs 0 0) 48) (sym e) in
+    let h = and_parts (ltb 1 (length bs)) (eqb (get_or bs 0 0) 48) (sym e) in
     (ltb-true 1 (length bs) h.0, eqb-true (get_or bs 0 0) 48 h.1)
 
 pub leads_not : (bs : List ℕ) → false ≡ (ltb 1 (length bs) && eqb (get_or bs 0 0) 48) → 0 < length bs → get_or bs 0 0 ≡ 48 → length bs ≡ 1
@@ -102,18 +99,6 @@ some_number bs n ds is fits some lead =
 pub digit_value : (c : ℕ) → 48 ≤ c → c ≤ 57 → digitValue c ≡ c - 48
 digit_value c l h = grind (arith, nat_tests)
 
--- Reading and writing are inverse.
-
+-- a number that is written reads back
 pub numbers_read_back : NumbersReadBack
 numbers_read_back n h = sym (some_read (figure n) n h refl)
-
-pub numbers_write_back : NumbersWriteBack
-numbers_write_back bs n e = go (bytes_eq bs (figure (digits_value 10 bs)) && ltb (digits_value 10 bs) (2 ^ 64)) refl e
-  where
-    go : (b : Bool) → (bytes_eq bs (figure (digits_value 10 bs)) && ltb (digits_value 10 bs) (2 ^ 64)) ≡ b → ◌≡◌ {A = Option ℕ} (cond b (Some (digits_value 10 bs)) None) (Some n) → (n < 2 ^ 64) × (figure n ≡ bs)
-    go false t f = let z : ◌≡◌ {A = ℕ} 0 1 = cc in absurd (omega arith)
-    go true t f =
-        let h = both (bytes_eq bs (figure (digits_value 10 bs))) (ltb (digits_value 10 bs) (2 ^ 64)) t in
-        let v : digits_value 10 bs ≡ n = cc in
-        let fits : digits_value 10 bs < 2 ^ 64 = ltb-true (digits_value 10 bs) (2 ^ 64) h.1 in
-        (omega (arith, v, fits), sym ((bytes_eq-Decides bs (figure (digits_value 10 bs))).0 h.0 ∙ ap figure v))

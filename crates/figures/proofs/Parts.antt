@@ -1,19 +1,9 @@
--- A write to the part of a buffer from a place on.
-use Rattle.std.proofs.Common.{◌≡◌, ℕ, ◌+◌, ◌-◌, ◌≤◌, List, [], ◌∷◌, ◌++◌, length, take, drop, sym, refl, ap, ◌∙◌, subst, append_assoc, append-nil, arith, length-append, length-drop, length-take, length-take-le}
-use borrow.Rule.Slice.PartMut.{put_mid}
-use Rattle.std.proofs.lemmas.List.{drop_all, drop-drop, take_rest, take_at, drop_at}
+-- Texts written to a line one after another.
+use Rattle.std.proofs.Common.{◌≡◌, ℕ, ◌+◌, ◌≤◌, List, [], ◌∷◌, ◌++◌, length, take, drop, sym, refl, ap, ◌∙◌, subst, append_assoc, append-nil, arith, length-append, length-take-le}
+use Rattle.std.proofs.lemmas.List.{drop-drop, take_at, drop_at}
 use Rattle.figures.specs.Figures.{over, into, spaced, line_of, Holds}
 use Rattle.figures.specs.Lines.{Appends}
 use Rattle.figures.specs.declared.line.Line.{Line}
-
-pub to_end : (at : ℕ) (xs ys : List ℕ) → put_mid at (length xs - at) xs ys ≡ take at xs ++ ys
-to_end at xs ys = ap (λ l. take at xs ++ (ys ++ l)) (drop_all (length xs - at) (drop at xs) (omega (arith, length-drop at xs))) ∙ ap (λ l. take at xs ++ l) (append-nil ys)
-
-pub laid : (ds : List ℕ) (at : ℕ) (xs ys : List ℕ) → ys ≡ over ds (take (length xs - at) (drop at xs)) → put_mid at (length xs - at) xs ys ≡ into ds at xs
-laid ds at xs ys e = to_end at xs ys ∙ ap (λ l. take at xs ++ l) (e ∙ ap (over ds) (take_rest xs at))
-
-pub length_into : (ds : List ℕ) (at : ℕ) (xs : List ℕ) → at + length ds ≤ length xs → length (into ds at xs) ≡ length xs
-length_into ds at xs h = simp (length-append, length-drop, length-take) (omega arith)
 
 -- one text behind another
 pub into_into : (a b : List ℕ) (at : ℕ) (buf : List ℕ) → at ≤ length buf → into b (at + length a) (into a at buf) ≡ into (a ++ b) at buf

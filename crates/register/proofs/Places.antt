@@ -3,7 +3,7 @@ use Rattle.std.proofs.Common.{◌≡◌, ℕ, zero, suc, ◌+◌, ◌<◌, ◌�
 use Rattle.std.specs.List.{position_or_len, position}
 use Rattle.std.proofs.lemmas.List.{at_drop_more, at_drop_all, get_or_append_left, get_or_push, length_push, take_more_set}
 use Rattle.std.proofs.str.Laws.{order}
-use Rattle.register.specs.Keys.{place, found, number_of, kept, kept_count, entered, Distinct, StaysDistinct, KeepsOrder, OneNumber}
+use Rattle.register.specs.Keys.{place, found, number_of, kept, kept_count, Distinct, StaysDistinct}
 
 -- a search that has passed i rows: the place of the first that passes is i and the place in the rest
 module _ {K : Type 0} (p : K → Bool) (xs : List K) (i : ℕ) where
@@ -91,29 +91,6 @@ stays_distinct {K} same ks n k fits apart = go (number_of (same k) (take n ks)) 
     go : (o : Option ℕ) → number_of (same k) (take n ks) ≡ o → Distinct same (take (kept_count (length ks) n o) (kept ks n k o))
     go (Some i) e = apart
     go None e = full None (ltb n (length ks)) refl e
-
-pub keeps_order : {K : Type 0} (same : K → K → Bool) → KeepsOrder same
-keeps_order same ks n k room = go (number_of (same k) (take n ks))
-  where
-    go : (o : Option ℕ) → take (kept_count (length ks) n o) (kept ks n k o) ≡ entered k (take n ks) o
-    go (Some i) = refl
-    go None = rw (lt-ltb n (length ks) room) (take_more_set ks n k room)
-
--- two tests that imply each other are one
-one_test : (a b : Bool) → (a ≡ true → b ≡ true) → (b ≡ true → a ≡ true) → a ≡ b
-one_test true b f g = sym (f refl)
-one_test false true f g = g refl
-one_test false false f g = refl
-
--- tests that agree on each row find the same place
-pub place_same : {K : Type 0} (p q : K → Bool) → ((x : K) → p x ≡ q x) → (xs : List K) → place p xs ≡ place q xs
-place_same p q e [] = refl
-place_same p q e (x ∷ xs) = λ u. cond (e x u) 0 (suc (place_same p q e xs u))
-
-pub one_number : {K : Type 0} (same : K → K → Bool) → ((x y : K) → same x y ≡ true → same y x ≡ true) → ((x y z : K) → same x y ≡ true → same y z ≡ true → same x z ≡ true) → OneNumber same
-one_number same symm trans ks j k e =
-    let t = place_same (same j) (same k) (λ x. one_test (same j x) (same k x) (λ h. trans k j x (symm j k e) h) (λ h. trans j k x e h)) ks in
-    λ u. cond (ltb (t u) (length ks)) (Some (t u)) None
 
 -- a number is answered just where a row passes
 pub some_found : {K : Type 0} (p : K → Bool) (xs : List K) → is_some (number_of p xs) ≡ found p xs

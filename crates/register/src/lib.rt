@@ -11,6 +11,7 @@ pub fn find_in<K: Eq>(keys: &[K], key: &K) -> Option<usize>
     keys.iter().position(|other| key == other)
 }
 
+// The count stands beside the keys, as their memory is lent.
 /// The keys that stand in the first `count` places of a lent slice.
 #[derive(Drop)]
 pub struct Register<'a, K> {

@@ -4,5 +4,5 @@ use Rattle.commands.proofs.words.kind_at.Goals as goal
 
 pub returns-in-strict : goal.returns-in-strict
 returns-in-strict c =
-    let is : c.word_at.result.now ≡ codes "strict" = spelt c.word_at.result.now (codes "strict") (omega arith) (omega arith, (omega arith, (omega arith, (omega arith, (omega arith, (omega arith, tt)))))) in
+    let is : c.word_at.result.now ≡ codes "strict" = spelt c.word_at.result.now (codes "strict") (omega arith) (search arith) in
     rw (sym c.word_at.ensures) (rw is refl)

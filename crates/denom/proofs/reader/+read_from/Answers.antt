@@ -3,9 +3,7 @@ use Rattle.std.specs.Result.{result_map_both}
 use Rattle.std.proofs.lemmas.Result.{err_from_is_err_and}
 use Rattle.denom.specs.Text.{read_from, only_symbol}
 use Rattle.denom.specs.Views.{symbol_answer, hops_after, count_after}
-use Rattle.std.proofs.lemmas.List.{length-set}
-use Rattle.denom.proofs.Bounds.{channels_set}
-use Rattle.denom.proofs.Steps.{one_hop, no_hop, no_hops, ok_step, err_step, symbol_here, symbol_none}
+use Rattle.denom.proofs.Steps.{one_hop, no_hop, no_hops, ok_step, err_step, symbol_here}
 use Rattle.denom.proofs.reader.+read_from.Goals as goal
 use Rattle.denom.proofs.reader.+read_from.Goals.{then-depth-lt-MOST_HOPS+in_default, else-depth-lt-MOST_HOPS}
 
@@ -32,30 +30,10 @@ returns-in-Some t c =
       count = now.2 ∙ ap (λ o. count_after o c.args.depth c.args.hops.now.count) (sym is);
     }
 
-pub returns-then-not-spells_symbol : goal.returns-then-not-spells_symbol
-returns-then-not-spells_symbol t c =
-    let whole : read_from (6 - c.args.depth) c.args.text.now ≡ only_symbol c.args.text.now =
-    elim c.if-depth-lt-MOST_HOPS.branch [ then-depth-lt-MOST_HOPS+in_default w ↦ no_hop _ _ w.if-depth-lt-MOST_HOPS.true w.in_default.ensures.value | else-depth-lt-MOST_HOPS w ↦ no_hops _ _ w.if-depth-lt-MOST_HOPS.false ]
-    in
-    let is = whole ∙ symbol_none c.args.text.now (sym c.if-not-spells_symbol.ensures) in
-    record {
-      answer = ap symbol_answer (sym is);
-      hops = ap (λ o. hops_after o c.args.depth c.args.hops.now.at) (sym is);
-      count = ap (λ o. count_after o c.args.depth c.args.hops.now.count) (sym is);
-    }
-
-pub returns : goal.returns
-returns t c =
+pub returns-clause-count : goal.returns-clause-count
+returns-clause-count t c =
     let whole : read_from (6 - c.args.depth) c.args.text.now ≡ only_symbol c.args.text.now =
     elim c.if-depth-lt-MOST_HOPS.branch [ then-depth-lt-MOST_HOPS+in_default w ↦ no_hop _ _ w.if-depth-lt-MOST_HOPS.true w.in_default.ensures.value | else-depth-lt-MOST_HOPS w ↦ no_hops _ _ w.if-depth-lt-MOST_HOPS.false ]
     in
     let is = whole ∙ symbol_here c.args.text.now (sym c.if-not-spells_symbol.ensures) in
-    record {
-      answer = ap symbol_answer (sym is);
-      hops = ap (λ o. hops_after o c.args.depth c.args.hops.now.at) (sym is);
-      count = sym (add-zero c.args.depth) ∙ ap (λ o. count_after o c.args.depth c.args.hops.now.count) (sym is);
-    }
-
-pub invariant_of-hops : goal.invariant_of-hops
-invariant_of-hops t c =
-    let record-hops = c.read_from.new.hops in record { six = length-set record-hops.at c.args.depth c.in-Some.hop ∙ record-hops.six; few = record-hops.few; channels = channels_set record-hops.at c.args.depth c.in-Some.hop c.in-Some.ensures.long.1 record-hops.channels }
+    sym (add-zero c.args.depth) ∙ ap (λ o. count_after o c.args.depth c.args.hops.now.count) (sym is)
