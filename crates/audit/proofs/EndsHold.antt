@@ -1,8 +1,8 @@
 -- What a route and a chain's denominations tell of escrow at the end that a lane leads from.
-use Rattle.std.proofs.Common.{◌≡◌, ℕ, ◌+◌, ◌-◌, ◌*◌, ◌/◌, ◌%◌, ◌<◌, ◌≤◌, Bool, true, false, not, ◌&&◌, eqb, ltb, List, map, length, get_or, sym, refl, ap, ◌∙◌, ⊎_elim, arith}
+use Rattle.std.proofs.Common.{◌≡◌, ℕ, ◌+◌, ◌-◌, ◌*◌, ◌/◌, ◌%◌, ◌<◌, Bool, true, false, not, ◌&&◌, eqb, ltb, List, map, length, get_or, sym, refl, ap, ◌∙◌, ⊎_elim, arith}
 use lib.ListN.{length-map}
 use Rattle.std.proofs.lemmas.List.{get_or-map}
-use Rattle.std.proofs.lemmas.Bool.{lt-ltb, le-ltb, eq-eqb, ne_eqb, and_parts, cases_eq}
+use Rattle.std.proofs.lemmas.Bool.{lt-ltb, eq-eqb, ne_eqb, and_parts, cases_eq}
 use Rattle.denom.specs.Denomination.{Denom}
 use Rattle.denom.specs.declared.types.Denomination.{Denomination}
 use Rattle.denom.specs.Views.{denom_view}
@@ -11,7 +11,7 @@ use Rattle.protocol.specs.Audit.{escrow_held}
 use Rattle.protocol.specs.World.{World, End, lane, back, from_end, no_denom}
 use Rattle.tables.specs.declared.types.Route.{Route}
 use Rattle.tables.specs.Routes.{Leads}
-use Rattle.audit.specs.Slots.{has_escrow, Entered}
+use Rattle.audit.specs.Slots.{Entered}
 
 -- the lane that leads back, by the link and the end of a lane
 pub leads_back : (i : ℕ) → 2 * (i / 2) + (1 - i % 2) ≡ back (lane (i / 2) (i % 2))
@@ -33,18 +33,8 @@ module _ (w : World) (i d : ℕ) (closed : ℕ → Bool) (r : Route) (leads : Le
   as_many : length (w.register (from_end w.links (lane (i / 2) (i % 2))).chain) ≡ length es
   as_many = sym (ap length there) ∙ length-map es denom_view
 
-  none : (a b : Bool) → (a && (false && b)) ≡ false
-  none true b = refl
-  none false b = refl
-
   all : (a b c : Bool) → a ≡ true → b ≡ true → c ≡ false → (a && (b && not c)) ≡ true
   all a b c e f h = rw (e, f, h) refl
-
-  -- no escrow under a number that is not given out
-  pub no_number : length es ≤ d → has_escrow w i d ≡ false
-  no_number h =
-      let past : ltb d (length (w.register (from_end w.links (lane (i / 2) (i % 2))).chain)) ≡ false = le-ltb d _ (omega (arith, as_many)) in
-      rw past (none (ltb (i / 2) (length w.links)) (not (eqb (escrow_held w (i / 2) (i % 2) d) 0)))
 
   -- the figure of the end's account
   pub held_there : (s : ℕ) → s ≡ w.ledger.balance r.near.chain (escrow_account r.near.channel) d → s ≡ escrow_held w (i / 2) (i % 2) d

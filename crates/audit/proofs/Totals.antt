@@ -1,5 +1,5 @@
 -- What the adding-up routine gives over packets and registers, in the words of the model.
-use Rattle.std.proofs.Common.{◌≡◌, ℕ, ◌+◌, ◌<◌, ◌≤◌, Bool, true, false, ◌&&◌, ltb, List, [], ◌∷◌, map, length, get_or, take, Some, None, sym, refl, ap, ◌∙◌, add-one, arith, length-take, lt-ltb}
+use Rattle.std.proofs.Common.{◌≡◌, ℕ, ◌+◌, ◌<◌, ◌≤◌, Bool, true, false, ◌&&◌, ltb, List, [], ◌∷◌, map, length, get_or, None, sym, refl, ap, ◌∙◌, add-one, arith, lt-ltb}
 use lib.ListN.{length-map}
 use Rattle.sums.specs.Sums.{sum_below, total, gate, counted, counted_from}
 use Rattle.sums.proofs.Below.{sum_same}
@@ -7,8 +7,8 @@ use Rattle.sums.proofs.Counted.{counted_total, counted_below}
 use Rattle.register.specs.Keys.{number_of, found}
 use Rattle.denom.specs.Denomination.{Denom, Token, same_denom, same_token}
 use Rattle.denom.specs.declared.types.Denomination.{Denomination}
-use Rattle.denom.specs.Views.{denom_view, token_view}
-use Rattle.protocol.specs.Ledger.{supply, users_hold}
+use Rattle.denom.specs.Views.{denom_view}
+use Rattle.protocol.specs.Ledger.{users_hold}
 use Rattle.protocol.specs.World as protocol
 use Rattle.protocol.specs.World.{World, is_open, supply_of, home_of, held, no_denom}
 use Rattle.tables.specs.declared.types.Packet.{Packet}
@@ -16,7 +16,6 @@ use Rattle.tables.specs.declared.types.Rows.{Rows}
 use Rattle.tables.specs.Rows.{rows_of}
 use Rattle.tables.specs.View.{packet_view, packets_in}
 use Rattle.tables.proofs.Taken.{few_rows}
-use Rattle.tables.proofs.Kept.{number_some}
 use Rattle.audit.specs.Figures.{held_on}
 
 -- a total over what rows stand for
@@ -37,22 +36,13 @@ open_counted w test ps e =
 pub few_packets : (t : Rows Packet 512) (ps : List Packet) → map packet_view ps ≡ packets_in t → length ps ≤ 512
 few_packets t ps e = omega (arith, few_rows t, length-map ps packet_view, ap length e, length-map (rows_of t) packet_view)
 
--- a supply by the number that was found, or by none
-supply_found : (w : World) (c n : ℕ) (e : Denom) → number_of (same_denom e) (w.register c) ≡ Some n → supply w.ledger.balance c n ≡ supply_of w c e
-supply_found w c n e is =
-    let at = number_some (same_denom e) (w.register c) n is in
-    sym (λ i. gate (at.0 i) (supply w.ledger.balance c (at.1 i)))
-
+-- no supply where no number was found
 pub no_supply : (w : World) (c : ℕ) (e : Denom) → number_of (same_denom e) (w.register c) ≡ None → 0 ≡ supply_of w c e
 no_supply w c e is = go (found (same_denom e) (w.register c)) refl
   where
     go : (b : Bool) → found (same_denom e) (w.register c) ≡ b → 0 ≡ supply_of w c e
     go false unknown = rw unknown refl
     go true known = let none = rw known at is in let z : ◌≡◌ {A = ℕ} 0 1 = cc in absurd (omega arith)
-
-pub supply_by_number :
-    (w : World) (c n s : ℕ) (e : Denom) → number_of (same_denom e) (w.register c) ≡ Some n → s ≡ supply w.ledger.balance c n → s ≡ supply_of w c e
-supply_by_number w c n s e is sum = sum ∙ supply_found w c n e is
 
 -- rows by what they stand for
 counted_map :

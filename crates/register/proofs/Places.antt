@@ -1,39 +1,9 @@
 -- Where the first row that passes a test stands.
-use Rattle.std.proofs.Common.{◌≡◌, ℕ, zero, suc, ◌+◌, ◌<◌, ◌≤◌, Bool, true, false, not, cond, ltb, List, [], ◌∷◌, ◌++◌, length, get_or, take, drop, set, is_some, IfSome, Some, None, Option, sym, refl, ap, ◌∙◌, subst, ⊎_elim, arith, ltb-false, ltb-true, le-ltb, lt-ltb}
+use Rattle.std.proofs.Common.{◌≡◌, ℕ, zero, suc, ◌+◌, ◌<◌, ◌≤◌, Bool, true, false, not, cond, ltb, List, [], ◌∷◌, ◌++◌, length, get_or, take, set, is_some, IfSome, Some, None, Option, sym, refl, ap, ◌∙◌, subst, ⊎_elim, arith, ltb-false, ltb-true}
 use Rattle.std.specs.List.{position_or_len, position}
-use Rattle.std.proofs.lemmas.List.{at_drop_more, at_drop_all, get_or_append_left, get_or_push, length_push, take_more_set}
+use Rattle.std.proofs.lemmas.List.{get_or_append_left, get_or_push, length_push, take_more_set}
 use Rattle.std.proofs.str.Laws.{order}
 use Rattle.register.specs.Keys.{place, found, number_of, kept, kept_count, Distinct, StaysDistinct}
-
--- a search that has passed i rows: the place of the first that passes is i and the place in the rest
-module _ {K : Type 0} (p : K → Bool) (xs : List K) (i : ℕ) where
-  abbrev pub Passed : Type 0
-  Passed = place p (drop i xs) + i ≡ place p xs
-
-  one_row : (x : K) → i < length xs → x ≡ get_or xs i x → place p (drop i xs) ≡ cond (p x) 0 (suc (place p (drop (i + 1) xs)))
-  one_row x within read =
-      at_drop_more (place p) xs i x within ∙ ap (λ y. cond (p y) 0 (suc (place p (drop (i + 1) xs)))) (sym read)
-
-  -- the row at i passes
-  pub number_here : (x : K) → i < length xs → x ≡ get_or xs i x → p x ≡ true → Passed → Some i ≡ number_of p xs
-  number_here x within read e inv =
-      let here : place p (drop i xs) ≡ 0 = rw e at (one_row x within read) in
-      let is : place p xs ≡ i = omega (arith, here, inv) in
-      let inside : ltb (place p xs) (length xs) ≡ true = lt-ltb (place p xs) (length xs) (omega arith) in
-      sym (rw (inside, is) refl)
-
--- the row at i fails
-pub passed_more : {K : Type 0} (p : K → Bool) (xs : List K) (i : ℕ) (x : K) → i < length xs → x ≡ get_or xs i x → p x ≡ false → Passed p xs i → Passed p xs (i + 1)
-passed_more p xs i x within read e inv =
-    let later : place p (drop i xs) ≡ suc (place p (drop (i + 1) xs)) = rw e at (one_row p xs i x within read) in
-    omega (arith, later, inv)
-
--- all rows have failed
-pub number_none : {K : Type 0} (p : K → Bool) (xs : List K) (i : ℕ) → length xs ≤ i → i ≤ length xs → Passed p xs i → None ≡ number_of p xs
-number_none p xs i past within inv =
-    let end : place p (drop i xs) ≡ 0 = at_drop_all (place p) xs i past in
-    let out : ltb (place p xs) (length xs) ≡ false = le-ltb (place p xs) (length xs) (omega (arith, end, inv)) in
-    sym (rw out refl)
 
 -- the library's words for it
 place_is : {K : Type 0} (p : K → Bool) (xs : List K) → position_or_len p xs ≡ place p xs

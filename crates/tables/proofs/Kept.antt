@@ -2,11 +2,10 @@
 use Rattle.std.proofs.Common.{◌≡◌, ℕ, suc, ◌+◌, ◌<◌, ◌≤◌, Bool, true, false, cond, ltb, List, [], ◌∷◌, ◌++◌, map, length, get_or, take, set, Some, None, Option, sym, refl, ap, ◌∙◌, arith, ltb-true, ltb-false, lt-ltb, le-ltb, leb-true, leb-false, length-take-le, not, leb, ◌&&◌, ◌||◌}
 use Rattle.std.specs.Option.{option_or}
 use Rattle.std.specs.Bool.{then_some}
-use Rattle.register.proofs.Places.{place_le}
-use Rattle.std.specs.List.{position, position_or_len, list_any}
+use Rattle.register.proofs.Places.{place_le, position_is}
+use Rattle.std.specs.List.{position, list_any}
 use Rattle.std.proofs.lemmas.List.{map_push, take_more_set, get_or-map}
 use Rattle.std.proofs.lemmas.Bool.Decides.{nat_tests}
-use Rattle.std.proofs.lemmas.List.Recursion.{is_position_or_len}
 use lib.ListN.{length-map}
 use Rattle.register.specs.Keys.{place, found, number_of, kept, kept_count, kept_number}
 use Rattle.tables.specs.Registers.{joined}
@@ -39,15 +38,9 @@ found_row f p rows n x d e read =
     let within : n < length rows = omega (arith, at.1, ltb-true _ _ at.0, length-map rows f) in
     ap f read ∙ sym (get_or-map f rows n x d within)
 
--- the library's word for the same
-place_is : {X : Type 0} (p : X → Bool) (xs : List X) → place p xs ≡ position_or_len p xs
-place_is p = is_position_or_len (place p) p refl (λ x xs. ap (cond (p x) 0) (omega arith))
-
 -- a position among the rows is a number among what they stand for
 pub position_seen : {X Y : Type 0} (f : X → Y) (p : Y → Bool) (xs : List X) → position (λ x. p (f x)) xs ≡ number_of p (map f xs)
-position_seen f p xs =
-    let at = place_is (λ x. p (f x)) xs in
-    (λ i. cond (ltb (sym at i) (length xs)) (Some (sym at i)) None) ∙ sym (number_map f p xs)
+position_seen f p xs = position_is (λ x. p (f x)) xs ∙ sym (number_map f p xs)
 
 -- some row passes where some of what they stand for is found
 pub any_seen : {X Y : Type 0} (f : X → Y) (p : Y → Bool) (xs : List X) → list_any (λ x. p (f x)) xs ≡ found p (map f xs)

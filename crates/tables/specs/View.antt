@@ -1,5 +1,5 @@
 -- What the rows of the tables stand for in the words of the model: ends, links, packets, denominations and tokens.
-use Rattle.std.specs.Prelude.{ℕ, Bool, true, false, cond, List, [], map, get_or, take, nat_lt, slice_index_or}
+use Rattle.std.specs.Prelude.{ℕ, Bool, true, false, List, [], map, slice_index_or}
 use Rattle.std.proofs.Common.{lit<, lit≤}
 use Rattle.denom.specs.Denomination.{Denom, Token}
 use Rattle.denom.specs.Views.{denom_view, token_view}

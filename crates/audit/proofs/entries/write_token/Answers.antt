@@ -1,8 +1,8 @@
 use Rattle.std.proofs.Common.{◌≡◌, true, ltb, ltb-true, List, [], ◌∷◌, length, get_or, map, codes, sym, ap, ◌∙◌, arith}
 use lib.ListN.{length-map}
 use Rattle.std.proofs.lemmas.List.{get_or-map}
-use Rattle.std.proofs.lemmas.Bool.{lt-ltb, le-ltb}
-use Rattle.figures.specs.Figures.{figure, line_of, over}
+use Rattle.std.proofs.lemmas.Bool.{lt-ltb}
+use Rattle.figures.specs.Figures.{figure, line_of}
 use Rattle.denom.specs.Denomination.{Token}
 use Rattle.denom.specs.Views.{token_view, symbol_of}
 use Rattle.protocol.specs.Audit.{token_supply, token_open, token_line}
@@ -11,7 +11,7 @@ use Rattle.tables.specs.declared.types.Tables.{Tables}
 use Rattle.tables.specs.View.{tokens_in}
 use Rattle.world.specs.View.{view}
 use Rattle.audit.specs.Slots.{no_token}
-use Rattle.audit.proofs.Written.{first_and_others, filled_answer, filled_buffer, empty_answer, empty_buffer}
+use Rattle.audit.proofs.Written.{first_and_others, filled_answer, filled_buffer}
 use Rattle.audit.proofs.entries.write_token.Goals as goal
 
 pub returns : goal.returns

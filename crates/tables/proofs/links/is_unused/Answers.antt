@@ -1,6 +1,6 @@
 use Rattle.std.proofs.Common.{◌≡◌, Bool, not, map, is_some, sym, ap, ◌∙◌, rules}
 use Rattle.register.proofs.Places.{some_found}
-use Rattle.protocol.specs.World.{same_end, end_at, ends, in_use}
+use Rattle.protocol.specs.World.{same_end, end_at, ends}
 use Rattle.tables.specs.View.{link_view}
 use Rattle.tables.proofs.links.is_unused.Goals as goal
 

@@ -1,4 +1,4 @@
-use Rattle.std.proofs.Common.{length, sym, ltb-true}
+use Rattle.std.proofs.Common.{sym, ltb-true}
 use Rattle.tables.proofs.Directions.{leads_out, leads_back}
 use Rattle.tables.proofs.lanes.Links.route.Goals as goal
 

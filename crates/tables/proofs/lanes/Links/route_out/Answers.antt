@@ -1,6 +1,6 @@
 use Rattle.std.proofs.Common.{◌≡◌, ℕ, ◌/◌, ◌%◌, Bool, true, false, List, Some, None, Option, map, sym, ap, ◌∙◌, arith, MatchOption}
 use Rattle.register.specs.Keys.{number_of}
-use Rattle.protocol.specs.World.{Link, same_end, end_at, ends, in_use}
+use Rattle.protocol.specs.World.{same_end, end_at, ends, in_use}
 use Rattle.tables.specs.declared.types.Link.{Link as Row}
 use Rattle.tables.specs.declared.types.Rows.{Rows}
 use Rattle.tables.specs.declared.types.Route.{Route}

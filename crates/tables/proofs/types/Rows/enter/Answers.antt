@@ -1,4 +1,4 @@
-use Rattle.std.proofs.Common.{◌≡◌, ℕ, ◌≤◌, List, length, take, ◌∙◌, arith}
+use Rattle.std.proofs.Common.{◌≡◌, ◌≤◌, length, take, ◌∙◌, arith}
 use Rattle.register.specs.Keys.{number_of}
 use Rattle.tables.specs.Rows.{rows_of}
 use Rattle.tables.proofs.Kept.{offer_answered, joins}

@@ -1,4 +1,4 @@
-use Rattle.std.proofs.Common.{◌<◌, length, arith, length-take}
+use Rattle.std.proofs.Common.{length, arith, length-take}
 use native.Mathlib.Nat.{min-le_left}
 use Rattle.tables.proofs.Taken.{take_of_set}
 use Rattle.tables.proofs.types.Rows.put.Goals as goal
