@@ -24,6 +24,7 @@ pub fn read_number(text: &[u8]) -> Option<u64>
     Some(n)
 }
 
+// By hand: the digits go straight into the lent rest of a line, without a text of their own.
 /// Writes the digits of a number over the front of a buffer, and answers how many there are.
 pub fn write_figure(out: &mut [u8], n: u128) -> usize
     requires { length (figure n) ≤ length out.old }

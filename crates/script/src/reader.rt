@@ -1,6 +1,7 @@
 ghost use Rattle.std.specs.Prelude.{◌≡◌, ℕ, ◌<◌, ◌≤◌, length, ◌≢◌, slice_index};
 ghost use Rattle.std.specs.Iterator.{item_count};
 
+// The text with the place beside it, as it is read in place and its pieces are parts of it.
 /// A text read in place, piece by piece, each up to the byte `end`.
 #[derive(Drop)]
 pub struct Reader<'a> {
