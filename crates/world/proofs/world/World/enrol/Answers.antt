@@ -1,4 +1,4 @@
-use Rattle.std.proofs.Common.{get_or, length, arith}
+use Rattle.std.proofs.Common.{get_or, arith}
 use Rattle.denom.specs.Denomination.{same_denom}
 use Rattle.denom.specs.Views.{denom_view}
 use Rattle.protocol.specs.Calls.{with_register}

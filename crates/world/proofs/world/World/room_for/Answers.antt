@@ -1,4 +1,4 @@
-use Rattle.std.proofs.Common.{◌≡◌, ◌||◌, ltb, length, sym, ap, ◌∙◌}
+use Rattle.std.proofs.Common.{◌≡◌, ◌||◌, ltb, length, sym, ◌∙◌}
 use Rattle.std.specs.Bool.{then_some}
 use lib.ListN.{length-map}
 use Rattle.denom.specs.Denomination.{same_token}
