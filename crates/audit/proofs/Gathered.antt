@@ -1,6 +1,7 @@
 -- The lines of an audit, gathered slot by slot.
-use Rattle.std.proofs.Common.{◌≡◌, ℕ, zero, suc, ◌+◌, ◌-◌, ◌*◌, ◌/◌, ◌%◌, ◌<◌, ◌≤◌, Bool, true, false, cond, not, ◌&&◌, eqb, ltb, List, [], ◌∷◌, ◌++◌, map, length, get_or, sym, refl, ap, ◌∙◌, subst, ap₂, append_assoc, append-nil, add-zero, mul-zero, zero-add, mul-suc, arith, length-append}
-use Rattle.std.proofs.lemmas.List.{get_or_at}
+use Rattle.std.proofs.Common.{◌≡◌, ℕ, zero, suc, ◌+◌, ◌-◌, ◌*◌, ◌/◌, ◌%◌, ◌<◌, ◌≤◌, Bool, true, false, cond, not, ◌&&◌, eqb, ltb, List, [], ◌∷◌, ◌++◌, map, length, get_or, sym, refl, ap, ◌∙◌, subst, ap₂, append_assoc, append-nil, add-zero, mul-zero, zero-add, mul-suc, arith, filter, Some, None, Option, MatchOption}
+use Rattle.std.specs.List.{range_with_len, slice_get}
+use Rattle.std.specs.Option.{option_map}
 use Rattle.std.proofs.lemmas.Bool.{lt-ltb, le-ltb, le-leb, lt-leb, ne_eqb}
 use Rattle.protocol.specs.Audit.{escrow_held, count_line, token_line, escrow_line, gathered, end_lines, audit_lines}
 use Rattle.protocol.specs.World.{World, lane, from_end, numbers_from}
@@ -188,53 +189,49 @@ module _ (w : World) (few : (c : ℕ) → length (w.register c) ≤ 32) where
       let P : List (List ℕ) → Type 0 = λ ls. Handed takes a ls b in
       subst P (ap (λ (m : ℕ). gathered (at_place w) (numbers_from 0 m)) all ∙ slots_gathered) h
 
-  -- Slots passed over one by one.
-  module _ (p : ℕ) (slot : Slot) (is : slot ≡ slot_at (length w.tokens) p) where
-    filled_one : has_line w slot ≡ true → at_place w p ≡ line_in w slot ∷ []
-    filled_one there = ap (lines_in w) (sym is) ∙ ap (λ (x : Bool). cond x (line_in w slot ∷ []) []) there
+-- The slots from place k on that have a line, and their lines, one for one.
+module _ (w : World) where
+  abbrev slot : ℕ → Slot
+  slot k = slot_at (length w.tokens) k
 
-    empty_one : has_line w slot ≡ false → at_place w p ≡ []
-    empty_one none = ap (lines_in w) (sym is) ∙ ap (λ (x : Bool). cond x (line_in w slot ∷ []) []) none
+  -- the slot that is found as the n-th has line n
+  abbrev Found : List (List ℕ) → ℕ → Option Slot → Type 0
+  Found ls n r = MatchOption r (length ls ≤ n) (λ s. (has_line w s ≡ true) × (n < length ls) × (line_in w s ≡ get_or ls n []))
 
-    one_more : has_line w slot ≡ true → length (gathered (at_place w) (numbers_from 0 (p + 1))) ≡ length (gathered (at_place w) (numbers_from 0 p)) + 1
-    one_more there =
-        ap length (gathered_more (at_place w) p ∙ ap (λ (l : List (List ℕ)). gathered (at_place w) (numbers_from 0 p) ++ l) (filled_one there))
-        ∙ length-append (gathered (at_place w) (numbers_from 0 p)) (line_in w slot ∷ [])
+  nth_of : (m k n : ℕ) (r : Option Slot) → r ≡ slice_get (filter (has_line w) (map slot (range_with_len k m))) n → Found (gathered (at_place w) (numbers_from k m)) n r
+  nth_of zero k n None e = omega arith
+  nth_of zero k n (Some s) e = let z : ◌≡◌ {A = ℕ} 0 1 = cc in absurd (omega arith)
+  nth_of (suc m) k n r e =
+      let next : suc k ≡ k + 1 = omega arith in
+      go (λ i o s. rw next (nth_of m (k + 1) i o s)) (has_line w (slot k)) refl n r e
+    where
+      rest : List Slot
+      rest = filter (has_line w) (map slot (range_with_len (k + 1) m))
 
-    as_many : has_line w slot ≡ false → length (gathered (at_place w) (numbers_from 0 (p + 1))) ≡ length (gathered (at_place w) (numbers_from 0 p))
-    as_many none =
-        ap length (gathered_more (at_place w) p ∙ ap (λ (l : List (List ℕ)). gathered (at_place w) (numbers_from 0 p) ++ l) (empty_one none) ∙ append-nil (gathered (at_place w) (numbers_from 0 p)))
+      below : List (List ℕ)
+      below = gathered (at_place w) (numbers_from (suc k) m)
 
-    -- one line less is left
-    pub passed_filled : (left n : ℕ) → has_line w slot ≡ true → suc left + length (gathered (at_place w) (numbers_from 0 p)) ≡ n → left + length (gathered (at_place w) (numbers_from 0 (p + 1))) ≡ n
-    passed_filled left n there e = omega (arith, one_more there, e)
+      past : (n : ℕ) (r : Option Slot) → Found below n r → Found (line_in w (slot k) ∷ below) (suc n) r
+      past n None h = omega (arith, h)
+      past n (Some s) h = (h.0, omega (arith, h.1), h.2)
 
-    pub passed_empty : (left n : ℕ) → has_line w slot ≡ false → left + length (gathered (at_place w) (numbers_from 0 p)) ≡ n → left + length (gathered (at_place w) (numbers_from 0 (p + 1))) ≡ n
-    passed_empty left n none e = omega (arith, as_many none, e)
+      go :
+          ((i : ℕ) (o : Option Slot) → o ≡ slice_get rest i → Found below i o) → (b : Bool) → has_line w (slot k) ≡ b → (n : ℕ) (r : Option Slot) → r ≡ slice_get (cond b (slot k ∷ rest) rest) n → Found (cond b (line_in w (slot k) ∷ []) [] ++ below) n r
+      go later false t n r e = later n r e
+      go later true t zero None e = let z : ◌≡◌ {A = ℕ} 0 1 = cc in absurd (omega arith)
+      go later true t zero (Some s) e = let same : s ≡ slot k = cc in (ap (has_line w) same ∙ t, omega arith, ap (line_in w) same)
+      go later true t (suc n) r e = past n r (later n r e)
 
-    -- the slot that is reached when n lines are passed has line n
-    pub reached : (left n : ℕ) → p < slots w → has_line w slot ≡ true → left ≡ 0 → left + length (gathered (at_place w) (numbers_from 0 p)) ≡ n → Nth w n slot
-    reached left n within there none total =
-        let passed : length (gathered (at_place w) (numbers_from 0 p)) ≡ n = omega arith in
-        let below = gathered (at_place w) (numbers_from 0 p) in
-        let line = line_in w slot in
-        let rest = gathered (at_place w) (numbers_from (suc p) (slots w - suc p)) in
-        let shape : slots w ≡ p + suc (slots w - suc p) = omega arith in
-        let whole : audit_lines w ≡ below ++ (line ∷ rest) =
-        sym slots_gathered
-        ∙ ap (λ (m : ℕ). gathered (at_place w) (numbers_from 0 m)) shape
-        ∙ gathered_parts (at_place w) 0 p (suc (slots w - suc p))
-        ∙ ap (λ (s : ℕ). below ++ gathered (at_place w) (numbers_from s (suc (slots w - suc p)))) (zero-add p)
-        ∙ ap (λ (l : List (List ℕ)). below ++ (l ++ rest)) (filled_one there) in
-        record {
-          there = there;
-          within = omega (arith, ap length whole, length-append below (line ∷ rest));
-          line = sym (ap₂ (λ (l : List (List ℕ)) (m : ℕ). get_or l m []) whole (sym passed) ∙ get_or_at below line rest [] (length below) refl);
-        }
+  -- of all slots the n-th that has a line has line n
+  pub nth_slot :
+      ((c : ℕ) → length (w.register c) ≤ 32) → (n : ℕ) (r : Option Slot) →
+      option_map (λ s. s) r ≡ slice_get (filter (has_line w) (map slot (range_with_len 0 (slots w)))) n → MatchOption r (length (audit_lines w) ≤ n) (λ s. Nth w n s)
+  nth_slot few n r e = told r (subst (λ (ls : List (List ℕ)). Found ls n r) (slots_gathered w few) (nth_of (slots w) 0 n r (same r ∙ e)))
+    where
+      same : (r : Option Slot) → r ≡ option_map (λ s. s) r
+      same None = refl
+      same (Some s) = refl
 
-  -- where every slot is passed there are no more lines
-  pub no_more : (left n p : ℕ) → p ≡ slots w → left + length (gathered (at_place w) (numbers_from 0 p)) ≡ n → length (audit_lines w) ≤ n
-  no_more left n p all total =
-      let same : length (gathered (at_place w) (numbers_from 0 p)) ≡ length (audit_lines w) =
-      ap length (ap (λ (m : ℕ). gathered (at_place w) (numbers_from 0 m)) all ∙ slots_gathered) in
-      omega (arith, same, total)
+      told : (r : Option Slot) → Found (audit_lines w) n r → MatchOption r (length (audit_lines w) ≤ n) (λ s. Nth w n s)
+      told None h = h
+      told (Some s) h = record { there = h.0; within = h.1; line = h.2 }

@@ -97,6 +97,7 @@ pub(crate) fn held<L: Confined, F: Book, S: Book>(world: &World<L, F, S>, token:
     ensures sum { result ≡ held_in (view L.meaning F.meaning S.meaning world.now) (token_view token.now) }
     ensures within { result ≤ 256 * 18446744073709551615 }
 {
+    // A loop: that the sum fits is told by what each call answers, and a `sum` would ask it of the totals themselves.
     let mut sum: u128 = 0;
     for chain in 0..CHAINS {
         sum += held_on(world, chain, token);

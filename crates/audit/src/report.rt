@@ -52,17 +52,10 @@ pub fn write_audit<L: Confined, F: Book, S: Book, O: Sink>(
 fn find_line<L: Confined, F: Book, S: Book>(world: &World<L, F, S>, n: usize) -> Option<Slot>
     ensures { MatchOption result (length (audit_lines (view L.meaning F.meaning S.meaning world.now)) ≤ n) (λ s. Nth (view L.meaning F.meaning S.meaning world.now) n s) }
 {
-    let mut left = n;
-    for place in 0..count_slots(world) {
-        let slot = slot_of(world, place);
-        if is_filled(world, slot) {
-            if left == 0 {
-                return Some(slot);
-            }
-            left -= 1;
-        }
-    }
-    None
+    (0..count_slots(world))
+        .map(|place| slot_of(world, place))
+        .filter(|slot| is_filled(world, *slot))
+        .nth(n)
 }
 
 /// Writes line n of the audit over the front of a buffer, and answers its length with LF. A buffer of less than 256 bytes, and a
