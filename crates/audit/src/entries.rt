@@ -10,7 +10,7 @@ use super::lines::{put_counts, put_escrow, put_token};
 use super::slots::{Entry, Slot};
 use books::Book;
 use ledger::Confined;
-use protocol::DENOMINATIONS;
+use protocol::{DENOMINATIONS, LINE_ROOM};
 use world::World;
 
 // How many slots there are.
@@ -63,8 +63,10 @@ pub(crate) fn entry_at<L: Confined, F: Book, S: Book>(
 }
 
 // Writes the line of the counts.
-fn write_counts<L: Confined, F: Book, S: Book>(world: &World<L, F, S>, buffer: &mut [u8]) -> usize
-    requires { 256 ≤ length buffer.old }
+fn write_counts<L: Confined, F: Book, S: Book>(
+    world: &World<L, F, S>,
+    buffer: &mut [u8; LINE_ROOM],
+) -> usize
     ensures length { result ≡ length (count_line (view L.meaning F.meaning S.meaning world.now)) }
     ensures buffer { buffer.new ≡ over (count_line (view L.meaning F.meaning S.meaning world.now)) buffer.old }
 {
@@ -79,9 +81,8 @@ fn write_counts<L: Confined, F: Book, S: Book>(world: &World<L, F, S>, buffer: &
 fn write_token<L: Confined, F: Book, S: Book>(
     world: &World<L, F, S>,
     number: usize,
-    buffer: &mut [u8],
+    buffer: &mut [u8; LINE_ROOM],
 ) -> Option<usize>
-    requires { 256 ≤ length buffer.old }
     ensures answer { result ≡ (if has_line (view L.meaning F.meaning S.meaning world.now) (Token number) then Some (length (line_in (view L.meaning F.meaning S.meaning world.now) (Token number))) else None) }
     ensures buffer { buffer.new ≡ (if has_line (view L.meaning F.meaning S.meaning world.now) (Token number) then over (line_in (view L.meaning F.meaning S.meaning world.now) (Token number)) buffer.old else buffer.old) }
 {
@@ -98,9 +99,8 @@ fn write_escrow<L: Confined, F: Book, S: Book>(
     world: &World<L, F, S>,
     lane: usize,
     number: usize,
-    buffer: &mut [u8],
+    buffer: &mut [u8; LINE_ROOM],
 ) -> Option<usize>
-    requires { 256 ≤ length buffer.old }
     ensures answer { result ≡ (if has_escrow (view L.meaning F.meaning S.meaning world.now) lane number then Some (length (escrow_line (view L.meaning F.meaning S.meaning world.now) (lane / 2) (lane % 2) number)) else None) }
     ensures buffer { buffer.new ≡ (if has_escrow (view L.meaning F.meaning S.meaning world.now) lane number then over (escrow_line (view L.meaning F.meaning S.meaning world.now) (lane / 2) (lane % 2) number) buffer.old else buffer.old) }
 {
@@ -124,11 +124,11 @@ fn write_escrow<L: Confined, F: Book, S: Book>(
 pub(crate) fn write_slot<L: Confined, F: Book, S: Book>(
     world: &World<L, F, S>,
     slot: Slot,
-    buffer: &mut [u8],
+    buffer: &mut [u8; LINE_ROOM],
 ) -> Option<usize>
-    requires { 256 ≤ length buffer.old }
     ensures answer { result ≡ (if has_line (view L.meaning F.meaning S.meaning world.now) slot then Some (length (line_in (view L.meaning F.meaning S.meaning world.now) slot)) else None) }
     ensures buffer { buffer.new ≡ (if has_line (view L.meaning F.meaning S.meaning world.now) slot then over (line_in (view L.meaning F.meaning S.meaning world.now) slot) buffer.old else buffer.old) }
+    ensures size { length buffer.new ≡ 256 }
 {
     match slot {
         Slot::Counts => Some(write_counts(world, buffer)),

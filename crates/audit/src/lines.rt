@@ -7,11 +7,16 @@ ghost use Rattle.denom.specs.Views.{denom_view, symbol_of};
 
 use denom::{Denomination, Symbol, write_denomination};
 use figures::Line;
+use protocol::LINE_ROOM;
 
 // How many tokens, links and packets there have been.
 #[tactic(auto, using(figures::proofs::Digits::length_figure_64, figures::proofs::Digits::length_figure_24))]
-pub(crate) fn put_counts(buffer: &mut [u8], tokens: usize, links: usize, packets: usize) -> usize
-    requires { 256 ≤ length buffer.old }
+pub(crate) fn put_counts(
+    buffer: &mut [u8; LINE_ROOM],
+    tokens: usize,
+    links: usize,
+    packets: usize,
+) -> usize
     ensures length { result ≡ length (line_of (codes "audit") (figure tokens ∷ figure links ∷ figure packets ∷ [])) }
     ensures buffer { buffer.new ≡ over (line_of (codes "audit") (figure tokens ∷ figure links ∷ figure packets ∷ [])) buffer.old }
 {
@@ -27,14 +32,13 @@ pub(crate) fn put_counts(buffer: &mut [u8], tokens: usize, links: usize, packets
 // A token: its supply at home, what users hold of it, and its open packets.
 #[tactic(auto, using(figures::proofs::Digits::length_figure_64, figures::proofs::Digits::length_figure_24))]
 pub(crate) fn put_token(
-    buffer: &mut [u8],
+    buffer: &mut [u8; LINE_ROOM],
     chain: usize,
     symbol: &Symbol,
     supply: u64,
     users: u128,
     carried: u128,
 ) -> usize
-    requires room { 256 ≤ length buffer.old }
     requires users { users < 10 ^ 24 }
     requires carried { carried < 10 ^ 24 }
     ensures length { result ≡ length (line_of (codes "token") (figure chain ∷ symbol_of symbol.now ∷ figure supply ∷ figure users ∷ figure carried ∷ [])) }
@@ -65,7 +69,7 @@ fn denomination_word(line: &mut Line, denomination: &Denomination)
 // The escrow of a denomination at an end of a link, and what it backs: its vouchers and its open packets.
 #[tactic(auto, using(figures::proofs::Digits::length_figure_64, figures::proofs::Digits::length_figure_24))]
 pub(crate) fn put_escrow(
-    buffer: &mut [u8],
+    buffer: &mut [u8; LINE_ROOM],
     link: usize,
     end: usize,
     denomination: &Denomination,
@@ -73,7 +77,6 @@ pub(crate) fn put_escrow(
     vouchers: u64,
     carried: u128,
 ) -> usize
-    requires room { 256 ≤ length buffer.old }
     requires carried { carried < 10 ^ 24 }
     ensures length { result ≡ length (line_of (codes "escrow") (figure link ∷ figure end ∷ denom_text (denom_view denomination.now) ∷ figure escrow ∷ figure vouchers ∷ figure carried ∷ [])) }
     ensures buffer { buffer.new ≡ over (line_of (codes "escrow") (figure link ∷ figure end ∷ denom_text (denom_view denomination.now) ∷ figure escrow ∷ figure vouchers ∷ figure carried ∷ [])) buffer.old }

@@ -20,10 +20,9 @@ use world::World;
 fn put_slot<L: Confined, F: Book, S: Book, O: Sink>(
     world: &World<L, F, S>,
     place: usize,
-    buffer: &mut [u8],
+    buffer: &mut [u8; LINE_ROOM],
     out: &mut O,
 ) -> Result<(), O::Error>
-    requires { 256 ≤ length buffer.old }
     ensures { OnOk result (Handed O.takes out.old (at_place (view L.meaning F.meaning S.meaning world.now) place) out.new) }
 {
     let slot = slot_of(world, place);
@@ -70,13 +69,13 @@ pub fn write_line<L: Confined, F: Book, S: Book>(
     ensures buffer { buffer.new ≡ left_by result buffer.old (over (audit_line (view L.meaning F.meaning S.meaning world.now) n) buffer.old) }
     ensures accounts { AddsUp (view L.meaning F.meaning S.meaning world.now) }
 {
-    if buffer.len() < LINE_ROOM {
+    let Some(room) = buffer.first_chunk_mut() else {
         return Err(AuditFault::BufferTooSmall);
-    }
+    };
     let Some(slot) = find_line(world, n) else {
         return Err(AuditFault::NoSuchLine);
     };
-    match write_slot(world, slot, buffer) {
+    match write_slot(world, slot, room) {
         Some(len) => Ok(len),
         None => Err(AuditFault::NoSuchLine),
     }

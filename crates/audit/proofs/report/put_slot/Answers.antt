@@ -1,11 +1,11 @@
-use Rattle.std.proofs.Common.{◌≡◌, ℕ, ◌-◌, take, ap, ◌∙◌, arith}
+use Rattle.std.proofs.Common.{◌≡◌, ℕ, ◌-◌, ◌≤◌, take, ap, ◌∙◌, arith}
 use Rattle.std.proofs.lemmas.Result.{IfOk-weaker}
-use Rattle.figures.proofs.Parts.{laid_fits, laid_front}
+use Rattle.figures.proofs.Parts.{laid_front}
 use Rattle.tables.proofs.Taken.{few_denoms}
 use Rattle.world.specs.View.{view}
 use Rattle.audit.specs.Slots.{has_line, line_in}
 use Rattle.audit.proofs.Gathered.{slot_handed}
-use Rattle.audit.proofs.Written.{has_one}
+use Rattle.audit.proofs.Written.{has_one, fits_front}
 use Rattle.audit.proofs.report.put_slot.Goals as goal
 
 pub slice_bounds-put-end : goal.slice_bounds-put-end
@@ -13,7 +13,8 @@ slice_bounds-put-end g c =
     let w = view g.L.Ledger.meaning g.F.Book.meaning g.S.Book.meaning c.args.world.now in
     let told = c.in-Some.ensures in
     let one = has_one (has_line w c.slot_of-slot.result) c.in-Some.len (line_in w c.slot_of-slot.result) c.args.buffer.now _ told.answer told.buffer in
-    laid_fits c.in-Some.len _ _ _ one.1 one.2
+    let fits : c.in-Some.len ≤ 256 = omega (arith, one.1, fits_front (line_in w c.slot_of-slot.result) c.args.buffer.now c.write_slot.new.buffer 256 one.2 (omega arith) told.size) in
+    fits
 
 pub returns-in-Some : goal.returns-in-Some
 returns-in-Some g c =
