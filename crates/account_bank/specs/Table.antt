@@ -3,7 +3,8 @@ use Rattle.std.specs.Prelude.{◌≡◌, ℕ, ◌+◌, ◌*◌, ◌≤◌, Bool,
 use Rattle.std.proofs.Common.{lit≤, arith}
 use Rattle.std.proofs.lemmas.Bool.{le-ltb}
 use Rattle.protocol.specs.House.{most, accounts, denoms_most}
-use Rattle.protocol.specs.Ledger.{Balances, supply}
+use Rattle.protocol.specs.Ledger.{Balances, Ledger, Lawful, supply}
+use Rattle.ledger.specs.Empty.{without_bars}
 use Rattle.bank.specs.OneChain.{Kept}
 
 -- the table of one chain takes 768 amounts; over less memory no chain is served
@@ -14,6 +15,14 @@ table_chains xs = cond (nat_lt (length xs) 768) 0 1
 unfoldable pub table_balances : List ℕ → Balances
 table_balances xs c a d =
     cond (nat_lt c (table_chains xs) && nat_lt a accounts && nat_lt d denoms_most) (slice_index xs (a * 32 + d)) 0
+
+-- the ledger that a table means
+abbrev pub table_meaning : List ℕ → Ledger
+table_meaning xs = without_bars (table_chains xs) (table_balances xs)
+
+-- where supplies are in bounds, both laws hold
+pub table_lawful : (xs : List ℕ) → ((c d : ℕ) → supply (table_balances xs) c d ≤ most) → Lawful (table_meaning xs)
+table_lawful xs h = record { supplies = h; bars = λ c u e. refl }
 
 -- a chain that is not served has no balance
 pub table_unserved : (xs : List ℕ) (c a d : ℕ) → table_chains xs ≤ c → table_balances xs c a d ≡ 0

@@ -22,13 +22,6 @@ pub struct Amounts {
     ghost supplies: { (c d : ℕ) → supply_of (table_balances amounts.items) c d ≤ most },
 }
 
-// Where the amount of a holding lies.
-fn place(holding: Holding) -> usize
-    ensures { result ≡ holding.account * 32 + holding.denomination }
-{
-    holding.account * DENOMINATIONS + holding.denomination
-}
-
 fn wipe(amounts: &mut Vec<u64>)
     ensures len { vec_len amounts.new ≡ vec_len amounts.old }
     ensures empty { table_balances amounts.new.items ≡ (λ _ _ _. 0) }
@@ -43,7 +36,7 @@ impl Amounts {
         requires { supply_of (table_balances self.old.amounts.items) 0 holding.denomination + amount ≤ most + table_balances self.old.amounts.items 0 holding.account holding.denomination }
         ensures { table_balances self.new.amounts.items ≡ balance-put (table_balances self.old.amounts.items) 0 holding.account holding.denomination amount }
     {
-        self.amounts[place(holding)] = amount;
+        self.amounts[holding.place()] = amount;
     }
 }
 
@@ -68,7 +61,7 @@ impl Store for Amounts {
     }
 
     fn at(&self, holding: Holding) -> u64 {
-        self.amounts[place(holding)]
+        self.amounts[holding.place()]
     }
 
     fn sum_of(&self, accounts: usize, denomination: usize) -> u64 {

@@ -3,6 +3,8 @@ ghost use Rattle.protocol.specs.Ledger.{supply as supply_of, users_hold};
 
 use ledger::Confined;
 
+// Plain numbers: a type of them would be made for each call alone.
+
 // What an account has of a denomination; nothing where the chain is not served.
 pub(crate) fn balance_at<L: Confined>(
     ledger: &L,

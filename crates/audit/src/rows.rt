@@ -42,7 +42,7 @@ pub struct OnLane<'a, L: Confined, F: Book, S: Book> {
     pub(crate) denomination: &'a Denomination,
 }
 
-// The kind of a link; that of a free one where there is none.
+// The kind of a link; that of a free one where there is none, as a mark is defined.
 fn kind_of(links: &[Link], link: usize) -> LinkKind
     ensures { is_strict result ≡ (slice_index_or (map link_view links.now) link no_link).kind }
 {
@@ -75,7 +75,7 @@ fn has_symbol(denomination: &Denomination, token: &TokenId) -> bool
     denomination.symbol == token.symbol
 }
 
-// The chain that a packet was sent from; 0 where its lane's link is not there.
+// The chain that a packet was sent from; 0 where its lane's link is not there, as the end of a lane is defined.
 fn sending_chain(tables: &Tables, packet: &Packet) -> usize
     ensures { result ≡ (from_end (links_in tables.now.links) packet.now.lane).chain }
 {

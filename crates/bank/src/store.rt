@@ -1,4 +1,4 @@
-ghost use Rattle.std.specs.Prelude.{◌≡◌, ℕ, ◌+◌, ◌<◌, ◌≤◌, List, Option, IfSome};
+ghost use Rattle.std.specs.Prelude.{◌≡◌, ℕ, ◌+◌, ◌*◌, ◌<◌, ◌≤◌, List, Option, IfSome};
 ghost use Rattle.sums.specs.Sums.{sum_below};
 ghost use Rattle.protocol.specs.Faults.{told_by, ledger_number};
 ghost use Rattle.protocol.specs.House.{most};
@@ -7,7 +7,7 @@ ghost use Rattle.protocol.specs.Refusals.{answer_unless, left_by};
 ghost use Rattle.ledger.specs.Taking.{take_refusals};
 ghost use Rattle.bank.specs.OneChain.{Kept, chains_kept};
 
-use protocol::LedgerFault;
+use protocol::{DENOMINATIONS, LedgerFault};
 
 /// Whose balance of what: an account and a denomination that a chain has.
 #[derive(Clone, Copy, PartialEq, Eq)]
@@ -29,6 +29,13 @@ impl Holding {
             account,
             denomination,
         }
+    }
+
+    /// Its place among all holdings, one account's 32 denominations after another's.
+    pub fn place(self) -> usize
+        ensures { result ≡ self.account * 32 + self.denomination }
+    {
+        self.account * DENOMINATIONS + self.denomination
     }
 }
 

@@ -7,6 +7,8 @@ ghost use Rattle.books.specs.Bounds.{Bounded};
 
 use protocol::{BookFault, Mark};
 
+// Lane and sequence come as they are: numbers outside the book are refused, so a struct of them would promise nothing.
+
 /// The marks of received packets, by lane and sequence.
 pub trait Book {
     ghost meaning: { Self → Meaning };

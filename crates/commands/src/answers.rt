@@ -10,7 +10,7 @@ use protocol::{Fault, Layer};
 /// The most bytes that an answer may have, its LF among them.
 pub const MOST_ANSWER: usize = 64;
 
-// A layer by its name.
+// A layer by its name. No `Display`: it goes straight into the lent rest of a line.
 fn layer_name(layer: Layer) -> &'static [u8]
     ensures value { result.now ≡ layer_text layer }
     ensures short { length result.now ≤ 6 }

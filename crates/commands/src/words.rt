@@ -64,7 +64,7 @@ pub(crate) fn index_at(line: &[u8], place: usize) -> Result<usize, ScriptFault>
     number_at(line, place).map(|n| n as usize)
 }
 
-// The word at a place as a kind of link.
+// The word at a place as a kind of link. No `TryFrom`, as for names.
 pub(crate) fn kind_at(line: &[u8], place: usize) -> Result<LinkKind, ScriptFault>
     ensures { result_map_both is_strict script_number result ≡ kind_word line.now place }
 {

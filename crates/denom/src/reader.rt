@@ -136,12 +136,7 @@ impl Denomination {
     pub fn blank() -> Denomination
         ensures { denom_view result ≡ hopless (97 ∷ []) }
     {
-        let mut bytes = [0; 16];
-        bytes[0] = b'a';
-        Denomination {
-            hops: Hops::none(),
-            symbol: Symbol { bytes, len: 1 },
-        }
+        Denomination::hopless(Symbol::copied(b"a"))
     }
 }
 

@@ -4,7 +4,8 @@ ghost use Rattle.denom.specs.Text.{is_symbol};
 // A trace has at most six hops.
 pub(crate) const MOST_HOPS: usize = 6;
 
-// The length stands beside the bytes: no heap, and these records are copied. Two types, as hops and symbols have laws of their own.
+// The length stands beside the bytes: no call has a refusal for want of memory, and these records are copied. Two types, as their
+// bytes have laws of their own, and a derive is refused over the ghost field of a generic struct.
 
 /// The hops of a denomination, the first hop first: at most six, each a channel 0 to 7.
 #[derive(Clone, Copy)]

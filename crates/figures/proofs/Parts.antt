@@ -52,7 +52,7 @@ into_over xs ds base =
     ∙ sym (append_assoc xs ds (drop (length (xs ++ ds)) base))
 
 -- what a buffer holds then, if it held a text before
-holds_more :
+pub holds_more :
     (xs text before : List ℕ) (l m : Line) → Holds l.at l.buffer.now xs before → Appends text l m →
     Holds m.at m.buffer.now (xs ++ text) before
 holds_more xs text before l m held wrote =

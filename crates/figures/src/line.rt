@@ -3,7 +3,7 @@ ghost use Rattle.figures.specs.Figures.{figure, over};
 
 use super::numbers::write_figure;
 
-// The buffer with the length beside it: no heap, the memory is the caller's.
+// The length stands beside the buffer, as the memory is the caller's.
 /// A line that is written from the front into a lent buffer, piece by piece.
 #[derive(Drop)]
 pub struct Line<'a> {

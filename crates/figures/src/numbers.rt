@@ -4,7 +4,7 @@ ghost use Rattle.figures.specs.Figures.{figure, number_read, over, NumbersReadBa
 fn has_leading_zero(text: &[u8]) -> bool
     ensures { result ≡ (nat_lt 1 (length text.now) && slice_index text.now 0 == 48) }
 {
-    text.len() > 1 && text[0] == b'0'
+    matches!(text, [b'0', _, ..])
 }
 
 /// The number that a text writes in base ten: no leading zeros, at most 2^64 - 1.

@@ -16,7 +16,7 @@ pub struct Beside<L: Ledger, R: Ledger> {
     second: R,
 }
 
-// One of the two, and its own number of a chain. Each call matches on it: the ledgers are of two types, so that one closure
+// One of the two, and its own number of a chain. No `Result`: neither side is a failure. Each call matches on it: the ledgers are of two types, so that one closure
 // cannot call either, and a `dyn` of one may not be handed out.
 #[derive(Clone, Copy)]
 pub(crate) enum Side {

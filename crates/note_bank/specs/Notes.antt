@@ -1,12 +1,14 @@
 -- What places with notes mean as a ledger: one chain, a balance the sum of its notes, and no bars.
-use Rattle.std.specs.Prelude.{◌≡◌, ℕ, ◌+◌, ◌*◌, ◌<◌, ◌≤◌, Bool, true, false, cond, ◌&&◌, List, length, is_some, Some, None, Option, ◌==◌, nat_le, nat_lt, slice_index_or, refl}
+use Rattle.std.specs.Prelude.{◌≡◌, ℕ, ◌+◌, ◌*◌, ◌<◌, ◌≤◌, Bool, true, false, cond, ◌&&◌, List, length, is_some, Some, None, Option, ◌==◌, nat_lt, slice_index_or, refl}
 use Rattle.std.specs.Option.{option_map}
 use Rattle.std.proofs.Common.{lit≤, arith}
 use Rattle.std.proofs.lemmas.Bool.{le-ltb}
 use Rattle.sums.specs.Sums.{total, gate}
+use Rattle.sums.specs.Columns.{column_has}
 use Rattle.sums.specs.declared.Column.{Column}
 use Rattle.protocol.specs.House.{most, accounts, denoms_most}
-use Rattle.protocol.specs.Ledger.{Balances, supply}
+use Rattle.protocol.specs.Ledger.{Balances, Ledger, Lawful, supply}
+use Rattle.ledger.specs.Empty.{without_bars}
 use Rattle.bank.specs.OneChain.{Kept}
 use Rattle.note_bank.specs.declared.place.Note.{Note}
 
@@ -30,8 +32,7 @@ share a d p = gate (belongs a d p) (amount_of p)
 
 -- a note of a column's denomination that belongs to one of its accounts
 abbrev pub note_in : Column → Note → ℕ → Bool
-note_in w n i =
-    (n.holding.denomination == w.denomination) && (nat_le w.from n.holding.account && nat_lt n.holding.account w.to)
+note_in w n i = column_has w n.holding.account n.holding.denomination
 
 -- every place from place n on is free
 abbrev pub FreeFrom : ℕ → List Place → Type 0
@@ -64,6 +65,14 @@ held xs a d = total (share a d) xs
 -- each balance is the sum of its notes
 unfoldable pub note_balances : List Place → Balances
 note_balances xs c a d = cond (nat_lt c (note_chains xs) && nat_lt a accounts && nat_lt d denoms_most) (held xs a d) 0
+
+-- the ledger that places with notes mean
+abbrev pub notes_meaning : List Place → Ledger
+notes_meaning xs = without_bars (note_chains xs) (note_balances xs)
+
+-- where supplies are in bounds, both laws hold
+pub notes_lawful : (xs : List Place) → ((c d : ℕ) → supply (note_balances xs) c d ≤ most) → Lawful (notes_meaning xs)
+notes_lawful xs h = record { supplies = h; bars = λ c u e. refl }
 
 -- a chain that is not served has no balance
 pub notes_unserved : (xs : List Place) (c a d : ℕ) → note_chains xs ≤ c → note_balances xs c a d ≡ 0

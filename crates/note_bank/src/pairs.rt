@@ -7,8 +7,8 @@ use crate::place::{Note, Place};
 use bank::Holding;
 use protocol::{ACCOUNTS, DENOMINATIONS};
 
-// How many pairs of an account and a denomination there are. The table of those seen has a place for each: a map would need
-// the heap.
+// How many pairs of an account and a denomination there are. The table of those seen has a place for each: a map would take
+// memory, and no refusal says that there is none.
 const PAIRS: usize = ACCOUNTS * DENOMINATIONS;
 
 // A free place, if there is one.
@@ -29,7 +29,7 @@ pub(crate) fn find_pair(places: &[Place]) -> (usize, usize)
     let mut seen: [Option<usize>; PAIRS] = [None; PAIRS];
     for (index, place) in places.iter().enumerate() {
         if let Some(note) = place {
-            let pair = note.holding.account * DENOMINATIONS + note.holding.denomination;
+            let pair = note.holding.place();
             if let Some(earlier) = seen[pair] {
                 return (earlier, index);
             }

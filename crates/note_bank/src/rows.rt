@@ -2,7 +2,6 @@
 ghost use Rattle.note_bank.specs.Notes.{note_in};
 
 use crate::place::Note;
-use bank::Holding;
 use sums::{Column, Row};
 
 impl Row<Column> for Note {
@@ -15,10 +14,6 @@ impl Row<Column> for Note {
     }
 
     fn chosen(&self, which: &Column, _place: usize) -> bool {
-        let Holding {
-            account,
-            denomination,
-        } = self.holding;
-        denomination == which.denomination && which.from <= account && account < which.to
+        which.has(self.holding.account, self.holding.denomination)
     }
 }

@@ -133,6 +133,9 @@ impl From<AuditFault> for Fault {
     }
 }
 
+// Methods, and no discriminants nor `From`: script faults share a number, world faults carry a cause, and a bare `into` would not
+// say that a number of refusal is meant.
+
 impl LedgerFault {
     /// The number of this refusal.
     pub fn number(self) -> u8

@@ -1,5 +1,8 @@
 use denom::Denomination;
 
+// Numbers of all sizes: whatever a script can say reaches the world, which refuses it. No `Option` for the timeout height: its 0
+// is how none is said.
+
 /// Which packet is meant: of which link, in which direction (0 from end 0 to end 1, and 1 back), with which sequence.
 #[derive(Clone, Copy)]
 pub struct PacketId {

@@ -7,7 +7,7 @@ use super::reader::Reader;
 pub fn is_comment(line: &[u8]) -> bool
     ensures { result ≡ is_comment line.now }
 {
-    line.is_empty() || line[0] == b'#'
+    matches!(line, [] | [b'#', ..])
 }
 
 // A byte from 32 to 126 that is no space after a space.

@@ -21,7 +21,7 @@ use std::io;
 use std::io::Write;
 use world::World;
 
-/// Carries out a command. `audit`, which is not served yet, is refused like an unknown one.
+/// Carries out a command. `audit`, which is not served, is refused like an unknown one.
 pub fn perform<L: Ledger, F: Book, S: Book>(
     world: &mut World<L, F, S>,
     command: Command,

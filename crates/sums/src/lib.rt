@@ -3,7 +3,7 @@
 
 ghost use Rattle.std.specs.Prelude.{◌≡◌, ℕ, ◌*◌, ◌≤◌, Bool, length};
 ghost use Rattle.sums.specs.Sums.{counted, amount_held, held_counts};
-ghost use Rattle.sums.specs.Columns.{in_column};
+ghost use Rattle.sums.specs.Columns.{column_has, in_column};
 
 /// A row that has an amount, and that counts in a sum or not, by what is wanted and by its place in the slice.
 pub trait Row<Which> {
@@ -46,6 +46,15 @@ pub struct Column {
     pub to: usize,
 }
 
+impl Column {
+    /// Whether a denomination of an account is of the column.
+    pub fn has(&self, account: usize, denomination: usize) -> bool
+        ensures { result ≡ column_has self.now account denomination }
+    {
+        denomination == self.denomination && self.from <= account && account < self.to
+    }
+}
+
 impl Row<Column> for u64 {
     ghost amount = { λ w x i. x };
 
@@ -56,8 +65,7 @@ impl Row<Column> for u64 {
     }
 
     fn chosen(&self, which: &Column, place: usize) -> bool {
-        let account = place / DENOMINATIONS;
-        place % DENOMINATIONS == which.denomination && which.from <= account && account < which.to
+        which.has(place / DENOMINATIONS, place % DENOMINATIONS)
     }
 }
 

@@ -41,6 +41,8 @@ impl Links {
         self.route(lane / 2, lane % 2)
     }
 
+    // The row is put back whole: what is written into an element of a generic table is not told to the proof.
+
     /// Closes a link.
     pub fn close(&mut self, link: usize)
         requires { link < length (links_in self.old) }

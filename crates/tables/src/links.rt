@@ -8,7 +8,7 @@ use super::types::{End, Link};
 use protocol::CHANNELS;
 
 impl End {
-    // Whether this is a channel of a chain.
+    // Whether this is a channel of a chain: two numbers of all sizes, which no `End` to compare with has.
     pub(crate) fn is(&self, chain: usize, channel: usize) -> bool
         ensures { result ≡ same_end (end_at chain channel) (end_view self.now) }
     {

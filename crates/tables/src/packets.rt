@@ -9,7 +9,7 @@ use super::types::{Effect, Event, Packet, Packets, Standing};
 use protocol::{BookFault, Mark, WorldFault};
 
 impl Packet {
-    // Whether this is the packet of a lane and a sequence.
+    // Whether this is the packet of a lane and a sequence: two numbers of all sizes, so no `==` of packets.
     fn is(&self, lane: usize, sequence: usize) -> bool
         ensures { result ≡ is_packet lane sequence (packet_view self.now) }
     {

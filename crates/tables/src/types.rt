@@ -72,6 +72,9 @@ pub struct Route {
     pub closed: bool,
 }
 
+// The count stands beside the places: no call has a refusal for want of memory, so no table may grow. `Copy` and `Clone` by hand:
+// a derive is refused over the ghost field of a generic struct. No `Model`: a copied one would have to give its free places back.
+
 /// Rows in order of arrival, in places of which the first are taken.
 pub struct Rows<T: Copy, const N: usize> {
     pub(crate) places: [T; N],

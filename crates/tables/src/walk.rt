@@ -7,7 +7,7 @@ use super::types::Links;
 use denom::{Denomination, Symbol};
 
 impl Links {
-    // The chain at the other end of a channel of a chain; 0 where the channel is not in use.
+    // The chain at the other end of a channel of a chain; 0 where the channel is not in use, as the walk home is defined.
     fn far_chain(&self, chain: usize, channel: usize) -> usize
         ensures { result ≡ (to_end (links_in self.now) (lane_out (links_in self.now) chain channel)).chain }
     {

@@ -19,7 +19,8 @@ fn awaits_lower<B: Book>(book: &B, lane: usize, sequence: usize) -> bool
     book.is_strict() && !book.lower_marked(lane, sequence)
 }
 
-// The books by the kind of link that each serves.
+// The books by the kind of link that each serves. Each method matches on the kind: the books are of two types, so that one closure
+// cannot call either, and a `dyn` of one may not be handed out.
 impl<L: Ledger, F: Book, S: Book> World<L, F, S> {
     /// The mark of a sequence of a lane, in the book for links of a kind.
     pub fn look(&self, kind: LinkKind, lane: usize, sequence: usize) -> Option<Mark>

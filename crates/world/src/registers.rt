@@ -11,7 +11,8 @@ use denom::{Denomination, TokenId};
 use ledger::Ledger;
 
 impl<L: Ledger, F: Book, S: Book> World<L, F, S> {
-    // Registers a denomination on a chain, if it is new.
+    // Registers a denomination on a chain, if it is new. The register is put back whole: what is written into an element of an array
+    // of generic tables is not told to the proof.
     pub(crate) fn enrol(&mut self, chain: usize, denomination: &Denomination)
         requires chain { chain < 8 }
         requires room { is_some (number_for (denom_view denomination.now) (denoms_of self.old.tables.denominations chain)) ≡ true }

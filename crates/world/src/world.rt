@@ -11,6 +11,8 @@ use ledger::Ledger;
 use protocol::{CHAINS, LINKS, LinkKind, WorldFault};
 use tables::{End, Link, Tables, lowest_unused};
 
+// No `Model`: a model's value is data, and the world that this one stands for has functions, its balances and marks.
+
 /// A world over a ledger and two books, one for free links and one for strict ones.
 #[derive(Drop)]
 pub struct World<L: Ledger, F: Book, S: Book> {

@@ -1,4 +1,4 @@
-use Rattle.std.proofs.Common.{◌∙◌, ◌≡◌, ℕ, ◌+◌, ◌*◌, ◌<◌, List, length, is_some, Option, sym, refl, ap, subst, arith, length-set, None}
+use Rattle.std.proofs.Common.{◌∙◌, ◌≡◌, ℕ, ◌+◌, ◌<◌, List, length, is_some, Option, sym, refl, ap, subst, arith, length-set, Some, None}
 use Rattle.std.proofs.lemmas.List.{get_or_read}
 use Rattle.sums.specs.Sums.{count}
 use Rattle.note_bank.specs.Notes.{pair_of}
@@ -11,7 +11,7 @@ loop-index-init c = (refl, λ q k e. absurd (none_seen 768 k q e), refl)
 
 pub returns-in-Some-seen-clause-order : goal.returns-in-Some-seen-clause-order
 returns-in-Some-seen-clause-order c =
-    let noted = c.loop-index.invariant.1 (c.in-Some.note.holding.account * 32 + c.in-Some.note.holding.denomination) c.in-Some-seen.earlier c.in-Some-seen.is in
+    let noted = c.loop-index.invariant.1 c.place-pair.result c.in-Some-seen.earlier c.in-Some-seen.is in
     noted.0
 
 pub loop-index-preserved : goal.loop-index-preserved
@@ -24,12 +24,12 @@ loop-index-preserved c =
     elim c.match-place.branch [
       | in-Some+in_default-seen w ↦
           let n = w.in-Some.note in
-          let pair = n.holding.account * 32 + n.holding.denomination in
-          let small : pair < 768 = omega (arith, n.holding.account_known, n.holding.denomination_known) in
+          let pair = w.place-pair.result in
+          let small : pair < 768 = omega (arith, w.place-pair.ensures, n.holding.account_known, n.holding.denomination_known) in
           let within : pair < length seen = omega (arith, c.loop-index.invariant.2) in
           subst Kept (sym w.seen-is) (
             count_more xs seen i pair within w.in_default-seen.is c.loop-index.invariant.0,
-            noted_more xs seen i pair within w.in_default-seen.is c.loop-index.invariant.1 (ap pair_of (sym read ∙ w.in-Some.is)),
+            noted_more xs seen i pair within w.in_default-seen.is c.loop-index.invariant.1 (ap pair_of (sym read ∙ w.in-Some.is) ∙ ap Some (sym w.place-pair.ensures)),
             rw length-set c.loop-index.invariant.2,
           )
       | in_default w ↦
