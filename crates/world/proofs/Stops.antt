@@ -66,9 +66,6 @@ module _ (w : World) (c n : ℕ) where
   pub tick_too_high : served w c ≡ true → eqb n 0 ≡ false → ltb most (w.height c + n) ≡ true → first (refusals w (tick c n)) ≡ Some 24
   tick_too_high s some high = rw (s, some, high)
 
-  pub tick_free : served w c ≡ true → eqb n 0 ≡ false → ltb most (w.height c + n) ≡ false → first (refusals w (tick c n)) ≡ None
-  tick_free s some low = rw (s, some, low)
-
 module _ (w : World) (c : ℕ) (e : Denom) where
   pub home_no_chain : served w c ≡ false → first (refusals w (home c e)) ≡ Some 6
   home_no_chain s = rw s

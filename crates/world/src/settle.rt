@@ -77,13 +77,13 @@ impl<L: Ledger, F: Book, S: Book> World<L, F, S> {
         self.give_back(near, packet, number)
     }
 
-    // Undoes a send: gives back what the packet carries to the end that it was sent from, and ends its standing.
-    fn refund(&mut self, near: End, sent: &Sent) -> Result<(), WorldFault>
+    // Undoes a send: gives back what the packet carries, and ends its standing.
+    fn refund(&mut self, sent: &Sent) -> Result<(), WorldFault>
         requires { sent.now.place < length (packets_in self.old.tables.packets) }
-        ensures answer { told_by world_number result ≡ answer_unless (refund_refusals (view L.meaning F.meaning S.meaning self.old) (end_view near) (packet_view sent.now.packet)) tt }
-        ensures after { view L.meaning F.meaning S.meaning self.new ≡ left_by result (view L.meaning F.meaning S.meaning self.old) (ended (refunded_at (view L.meaning F.meaning S.meaning self.old) (end_view near) (packet_view sent.now.packet)) sent.now.place) }
+        ensures answer { told_by world_number result ≡ answer_unless (refund_refusals (view L.meaning F.meaning S.meaning self.old) (end_view sent.now.route.near) (packet_view sent.now.packet)) tt }
+        ensures after { view L.meaning F.meaning S.meaning self.new ≡ left_by result (view L.meaning F.meaning S.meaning self.old) (ended (refunded_at (view L.meaning F.meaning S.meaning self.old) (end_view sent.now.route.near) (packet_view sent.now.packet)) sent.now.place) }
     {
-        match self.pay_back(near, &sent.packet) {
+        match self.pay_back(sent.route.near, &sent.packet) {
             Ok(()) => {
                 self.tables.packets.end(sent.place);
                 Ok(())
@@ -134,7 +134,7 @@ impl<L: Ledger, F: Book, S: Book> World<L, F, S> {
     {
         let (sent, effect) = self.acknowledgeable(id)?;
         if let Effect::EndsWithRefund = effect {
-            return self.refund(sent.route.near, &sent);
+            return self.refund(&sent);
         }
         self.tables.packets.end(sent.place);
         Ok(())
@@ -147,7 +147,7 @@ impl<L: Ledger, F: Book, S: Book> World<L, F, S> {
         ensures after { view L.meaning F.meaning S.meaning self.new ≡ (step (view L.meaning F.meaning S.meaning self.old) (timing_out id)).0 }
     {
         let sent = self.expired(id)?;
-        self.refund(sent.route.near, &sent)?;
+        self.refund(&sent)?;
         self.close_if_strict(&sent.route);
         Ok(())
     }

@@ -93,12 +93,10 @@ impl<L: Ledger, F: Book, S: Book> World<L, F, S> {
         if by == 0 {
             return Err(WorldFault::AmountOrStepZero);
         }
-        match self.tables.heights[chain].checked_add(by) {
-            Some(height) => {
-                self.tables.heights[chain] = height;
-                Ok(())
-            }
-            None => Err(WorldFault::HeightTooLarge),
-        }
+        let height = self.tables.heights[chain]
+            .checked_add(by)
+            .ok_or(WorldFault::HeightTooLarge)?;
+        self.tables.heights[chain] = height;
+        Ok(())
     }
 }
