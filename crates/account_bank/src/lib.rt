@@ -2,5 +2,7 @@
 #![tactic(auto)]
 
 mod amounts;
+mod laws;
 
 pub use amounts::{AccountBank, Amounts};
+pub use laws::bank_means_its_table;

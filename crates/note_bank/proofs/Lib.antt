@@ -2,3 +2,4 @@ pub mod Shares
 pub mod Fronts
 pub mod Seen
 pub mod Joins
+pub mod Meaning
