@@ -1,16 +1,17 @@
 -- How many rows pass a test.
-use Rattle.std.proofs.Common.{◌≡◌, ℕ, ◌+◌, ◌≤◌, Bool, true, false, cond, List, [], ◌∷◌, map, length, sym, refl, arith}
-use Rattle.std.specs.List.{count_by}
-use Rattle.std.proofs.lemmas.List.Recursion.{is_count_by}
+use Rattle.std.proofs.Common.{◌≡◌, ℕ, ◌+◌, ◌≤◌, Bool, true, false, List, [], ◌∷◌, map, length, sym, refl, arith}
+use Rattle.std.specs.Int.{from_bool}
+use Rattle.std.specs.List.{sum_by}
+use Rattle.std.proofs.lemmas.List.Recursion.{is_sum_by}
 use Rattle.sums.specs.Sums.{count, gate}
 
--- what is counted of the rows is counted of what they stand for
-pub count_seen : {X Y : Type 0} (f : X → Y) (p : Y → Bool) (xs : List X) → count_by (λ x. p (f x)) xs ≡ count p (map f xs)
-count_seen f p xs = sym (is_count_by (λ l. count p (map f l)) (λ x. p (f x)) refl (λ x l. one (p (f x)) (count p (map f l))) xs)
+-- one for each row that passes, added up, is the count of what the rows stand for
+pub count_seen : {X Y : Type 0} (f : X → Y) (p : Y → Bool) (xs : List X) → sum_by (λ x. from_bool (p (f x))) xs ≡ count p (map f xs)
+count_seen f p xs = sym (is_sum_by (λ l. count p (map f l)) (λ x. from_bool (p (f x))) refl (λ x l. one (p (f x)) (count p (map f l))) xs)
   where
-    one : (b : Bool) (n : ℕ) → gate b 1 + n ≡ cond b (1 + n) n
+    one : (b : Bool) (n : ℕ) → gate b 1 + n ≡ from_bool b + n
     one true n = refl
-    one false n = omega arith
+    one false n = refl
 
 -- no more rows pass than there are
 pub count_le : {X : Type 0} (p : X → Bool) (xs : List X) → count p xs ≤ length xs

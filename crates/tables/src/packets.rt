@@ -82,8 +82,8 @@ impl Packets {
     {
         self.as_slice()
             .iter()
-            .filter(|packet| packet.lane == lane)
-            .count()
+            .map(|packet| usize::from(packet.lane == lane))
+            .sum()
     }
 
     /// Ends the standing of the packet at a place.

@@ -1,24 +1,38 @@
-use Rattle.std.proofs.Common.{◌≡◌, Bool, eqb, length, ◌∙◌, rules}
+use Rattle.std.proofs.Common.{◌≡◌, Bool, eqb, map, ◌∙◌, rules, arith}
 use borrow.Author.Tests.{tests}
-use Rattle.std.specs.List.{filter}
-use Rattle.std.proofs.lemmas.Iterator.{YieldsList-from_slice}
-use Rattle.std.proofs.lemmas.Iterator.Consumers.{YieldsList-from_filter, count_from_yields_List}
-use Rattle.std.proofs.lemmas.List.Sums.{length-filter}
+use Rattle.std.specs.Int.{from_bool}
+use Rattle.std.specs.List.{sum_by}
+use Rattle.std.proofs.lemmas.Iterator.{YieldsList-from_slice, YieldsList-from_map}
+use Rattle.std.proofs.lemmas.Iterator.Consumers.{sum_by_from_yields_List, fits_by_from_yields_list}
+use lib.ListN.{length-map}
 use Rattle.protocol.specs.World.{Packet}
 use Rattle.tables.specs.Rows.{rows_of}
 use Rattle.tables.specs.View.{packet_view}
-use Rattle.tables.proofs.Counts.{count_seen}
+use Rattle.tables.proofs.Counts.{count_seen, count_le}
+use Rattle.tables.proofs.Taken.{few_rows}
 use Rattle.tables.proofs.packets.Packets.sent_on.Goals as goal
+
+pub sum-requires-clause-fits : goal.sum-requires-clause-fits
+sum-requires-clause-fits c =
+    let test : Packet → Bool = λ p. eqb p.lane c.args.lane in
+    let rows = rows_of c.args.self.now in
+    let least = count_le test (map packet_view rows) in
+    fits_by_from_yields_list (λ p. from_bool (test (packet_view p))) rows c.map.result 18446744073709551616
+    (YieldsList-from_map _ (λ p. from_bool (test (packet_view p)))
+    (YieldsList-from_slice rows (rw c.map.ensures.source (c.iter.ensures.rest ∙ c.as_slice.ensures)))
+    c.map.ensures.closure
+    (λ x b q k. search (rules, tests)))
+    (rw (count_seen packet_view test rows) (omega (arith, least, few_rows c.args.self.now, length-map rows packet_view)))
 
 pub returns : goal.returns
 returns c =
     let test : Packet → Bool = λ p. eqb p.lane c.args.lane in
     let rows = rows_of c.args.self.now in
-    let sent : c.count.result ≡ length (filter (λ p. test (packet_view p)) rows) =
-    count_from_yields_List c.filter.result c.count.result c.count.ensures.ran
-    (YieldsList-from_filter _ (λ p. test (packet_view p))
-    (YieldsList-from_slice rows (rw c.filter.ensures.source (c.iter.ensures.rest ∙ c.as_slice.ensures)))
-    c.filter.ensures.closure
+    let sent : c.sum.result ≡ sum_by (λ p. from_bool (test (packet_view p))) rows =
+    sum_by_from_yields_List (λ p. from_bool (test (packet_view p))) rows c.map.result c.sum.result c.sum.ensures.ran
+    (YieldsList-from_map _ (λ p. from_bool (test (packet_view p)))
+    (YieldsList-from_slice rows (rw c.map.ensures.source (c.iter.ensures.rest ∙ c.as_slice.ensures)))
+    c.map.ensures.closure
     (λ x b q k. search (rules, tests)))
     in
-    sent ∙ length-filter (λ p. test (packet_view p)) rows ∙ count_seen packet_view test rows
+    sent ∙ count_seen packet_view test rows
