@@ -10,15 +10,12 @@ use session::answer_lines;
 use std::io::{BufWriter, Read, Write};
 use world::World;
 
-// Puts a world together and answers a script on it.
-fn answer_script(text: &[u8], rt: &HostRuntime) -> anyhow::Result<()> {
+// Puts a world together and answers a script on it. It stays a function of its own, so that a script that is too long takes no
+// stack for a world.
+#[inline(never)]
+fn answer_on_a_world(text: &[u8], rt: &HostRuntime) -> anyhow::Result<()> {
     let heap = rt.alloc();
     let mut out = BufWriter::new(heap, rt.stdout())?;
-    if is_too_long(text) {
-        out.write_all(b"0 no 1 script\n")?;
-        out.flush()?;
-        return Ok(());
-    }
     let accounts = AccountBank::new(vec![in heap; 0u64; 768]?);
     let notes = NoteBank::new(vec![in heap; None; 1024]?);
     let ledger = Barring::new(Beside::new(accounts, notes));
@@ -28,10 +25,21 @@ fn answer_script(text: &[u8], rt: &HostRuntime) -> anyhow::Result<()> {
     Ok(())
 }
 
+// Answers a script.
+fn answer_script(text: &[u8], rt: &HostRuntime) -> anyhow::Result<()> {
+    if is_too_long(text) {
+        let mut out = BufWriter::new(rt.alloc(), rt.stdout())?;
+        out.write_all(b"0 no 1 script\n")?;
+        out.flush()?;
+        return Ok(());
+    }
+    answer_on_a_world(text, rt)
+}
+
 fn main(rt: HostRuntime) -> anyhow::Result<()> {
-    let mut text = Vec::new(rt.alloc());
     // One byte more than a script may have tells one that is too long.
-    let most = MOST_SCRIPT as u64 + 1;
-    rt.stdin().take(most).read_to_end(&mut text)?;
+    let most = MOST_SCRIPT + 1;
+    let mut text = Vec::with_capacity(rt.alloc(), most)?;
+    rt.stdin().take(most as u64).read_to_end(&mut text)?;
     answer_script(&text, &rt)
 }
