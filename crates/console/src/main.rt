@@ -7,33 +7,33 @@ use commands::{MOST_SCRIPT, is_too_long};
 use layers::{Barring, Beside};
 use note_bank::NoteBank;
 use session::answer_lines;
+use std::alloc::Global;
 use std::io::{BufWriter, Read, Write};
 use world::World;
 
 // Puts a world together and answers a script on it. It stays a function of its own, so that a script that is too long takes no
 // stack for a world.
 #[inline(never)]
-fn answer_on_a_world(text: &[u8], rt: &HostRuntime) -> anyhow::Result<()> {
-    let heap = rt.alloc();
-    let mut out = BufWriter::new(heap, rt.stdout())?;
+fn answer_on_a_world(text: &[u8], heap: Global, out: &mut impl Write) -> anyhow::Result<()> {
     let accounts = AccountBank::new(vec![in heap; 0u64; 768]?);
     let notes = NoteBank::new(vec![in heap; None; 1024]?);
     let ledger = Barring::new(Beside::new(accounts, notes));
     let mut world = World::new(ledger, FreeBook::new(), StrictBook::new());
-    answer_lines(&mut world, text, &mut out)?;
-    out.flush()?;
+    answer_lines(&mut world, text, out)?;
     Ok(())
 }
 
 // Answers a script.
 fn answer_script(text: &[u8], rt: &HostRuntime) -> anyhow::Result<()> {
+    let heap = rt.alloc();
+    let mut out = BufWriter::new(heap, rt.stdout())?;
     if is_too_long(text) {
-        let mut out = BufWriter::new(rt.alloc(), rt.stdout())?;
         out.write_all(b"0 no 1 script\n")?;
-        out.flush()?;
-        return Ok(());
+    } else {
+        answer_on_a_world(text, heap, &mut out)?;
     }
-    answer_on_a_world(text, rt)
+    out.flush()?;
+    Ok(())
 }
 
 fn main(rt: HostRuntime) -> anyhow::Result<()> {
